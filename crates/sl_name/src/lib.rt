@@ -1,0 +1,9 @@
+//! Names: texts that contracts see as their characters.
+#![tactic(auto)]
+
+mod name;
+
+pub use name::Name;
+
+#[cfg(test)]
+mod tests;
