@@ -1,0 +1,17 @@
+//! What a thread shows to the outside.
+
+use sl_name::Name;
+
+/// A printed line, or the exception that ended a thread. Threads are counted from 1.
+#[derive(Debug, Drop)]
+pub enum Event {
+    Line {
+        thread: u32,
+        text: Name,
+    },
+    Uncaught {
+        thread: u32,
+        class: Name,
+        message: Option<Name>,
+    },
+}
