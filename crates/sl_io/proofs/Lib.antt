@@ -1,0 +1,4 @@
+pub mod Gaining
+pub mod Places
+pub mod ReadUpTo
+pub mod Rising

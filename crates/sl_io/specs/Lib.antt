@@ -1,0 +1,10 @@
+pub mod Counts
+pub mod FaultPlan
+pub mod Fetch
+pub mod Files
+pub mod Gains
+pub mod Gathered
+pub mod Held
+pub mod Put
+pub mod Reading
+pub mod SinkFault

@@ -1,0 +1,24 @@
+ghost use Rattle.std.specs.Prelude.{◌≤◌, OnOk, OnErr};
+ghost use Rattle.sl_io.specs.Counts.{Rose};
+ghost use Rattle.sl_io.specs.Gains.{Gains, GainsFront};
+ghost use Rattle.sl_io.specs.SinkFault.{OnSinkFailed};
+
+use crate::{Sink, SinkFault};
+
+/// Writes the whole piece. After a fault the sink has taken some front of it.
+pub fn write_all<S: Sink>(sink: &mut S, piece: &[u8]) -> Result<(), SinkFault>
+    ensures whole { OnOk result (Gains (S.contents sink.old) piece.now (S.contents sink.new)) }
+    ensures front { OnErr result (GainsFront (S.contents sink.old) piece.now (S.contents sink.new)) }
+    ensures failed { OnSinkFailed result (Rose (S.faults sink.old) (S.faults sink.new)) }
+    ensures counts { S.faults sink.old ≤ S.faults sink.new }
+{
+    let mut at = 0;
+    while at < piece.len() {
+        match sink.write(&piece[at..]) {
+            Ok(0) => return Err(SinkFault::Failed),
+            Ok(taken) => at += taken,
+            Err(fault) => return Err(fault),
+        }
+    }
+    Ok(())
+}
