@@ -1,0 +1,15 @@
+pub mod Digits
+pub mod Emitted
+pub mod Exactly
+pub mod Gained
+pub mod Going
+pub mod Lengths
+pub mod Lines
+pub mod OneValue
+pub mod Outcomes
+pub mod Parts
+pub mod Prints
+pub mod Runs
+pub mod Steps
+pub mod Traces
+pub mod Words

@@ -1,0 +1,14 @@
+pub mod Causes
+pub mod Code
+pub mod Course
+pub mod Ending
+pub mod Listing
+pub mod Machine
+pub mod Outside
+pub mod Printing
+pub mod Reading
+pub mod Request
+pub mod Told
+pub mod Top
+pub mod Trace
+pub mod Value

@@ -1,0 +1,51 @@
+-- The files that run today: an object `Main` whose `main` prints chains of literals (SLS 1, in the form with braces).
+use Rattle.std.specs.Prelude.{◌≡◌, ℕ, ◌^◌, ◌<◌, List, [], ◌∷◌, ◌++◌, map, flat_map, replicate, codes, decimal}
+use Rattle.std.specs.List.{AllByRecursion}
+use Rattle.ty_prog.specs.declared.prim_op.PrimOp.{PrimOp}
+use Rattle.ty_prog.specs.declared.prim_op.PrimOp.TheVariants.{Add, Sub, Mul}
+use Rattle.sl_top.specs.declared.chain.Term.{Term}
+use Rattle.sl_top.specs.declared.chain.Chain.{Chain}
+
+-- a literal is in decimal without a leading zero, and at most 2147483647
+abbrev pub IsLiteral : ℕ → Type 0
+IsLiteral n = n < 2 ^ 31
+
+abbrev pub operator_text : PrimOp → List ℕ
+operator_text Add = codes " + "
+operator_text Sub = codes " - "
+operator_text Mul = codes " * "
+
+abbrev pub term_text : Term → List ℕ
+term_text t = operator_text t.op ++ decimal t.literal
+
+abbrev pub chain_text : Chain → List ℕ
+chain_text c = decimal c.first ++ flat_map term_text c.rest
+
+-- each literal is one
+abbrev pub HasLiterals : Chain → Type 0
+HasLiterals c = IsLiteral c.first × AllByRecursion (λ t. IsLiteral t.literal) c.rest
+
+-- the texts of the lines
+abbrev pub print_text : Chain → List ℕ
+print_text c = codes "println(" ++ (chain_text c ++ codes ")")
+
+abbrev pub body_texts : List Chain → List (List ℕ)
+body_texts chains = map print_text chains ++ (codes "}" ∷ codes "}" ∷ [])
+
+abbrev pub listing_texts : List Chain → List (List ℕ)
+listing_texts chains = codes "object Main {" ∷ codes "def main(): Unit = {" ∷ body_texts chains
+
+-- a line: perhaps spaces, its text, and LF
+abbrev pub line : ℕ → List ℕ → List ℕ
+line indent text = replicate indent 32 ++ (text ++ 10 ∷ [])
+
+-- the bytes are one line for each text, in order
+abbrev pub AreLines : List (List ℕ) → List ℕ → Type 0
+AreLines [] bytes = bytes ≡ []
+AreLines (text ∷ texts) bytes =
+    (indent : ℕ) × (rest : List ℕ) × (bytes ≡ line indent text ++ rest) × AreLines texts rest
+
+-- the bytes are a file that prints these chains, in order
+pub record IsListing (bytes : List ℕ) (chains : List Chain) : Type 0 where
+  pub literals : AllByRecursion HasLiterals chains
+  pub lines : AreLines (listing_texts chains) bytes

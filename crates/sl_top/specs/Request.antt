@@ -1,0 +1,16 @@
+-- What a list of words asks for.
+use Rattle.std.specs.Prelude.{◌≡◌, ℕ, List, [], ◌∷◌, codes, None, false}
+use Rattle.sl_top.specs.declared.request.Options.{Options}
+use Rattle.sl_top.specs.declared.request.Request.{Request}
+use Rattle.sl_top.specs.declared.request.Request.TheVariants.{Run}
+
+abbrev pub defaults : Options
+defaults = record { budget = 10000000; quantum = 50; turns = None; save = None; trace = false }
+
+-- `run FILE`; the word behind the command is the file, whatever it is
+abbrev pub AsksFor : List (List ℕ) → Request → Type 0
+AsksFor words (Run file options) = (words ≡ codes "run" ∷ file ∷ []) × (options ≡ defaults)
+
+-- any other list asks for nothing
+abbrev pub AsksNothing : List (List ℕ) → Type 0
+AsksNothing words = (request : Request) → AsksFor words request → ⊥

@@ -1,0 +1,52 @@
+ghost use Rattle.std.specs.Prelude.{◌≡◌, IfOk, MatchOption, codes, [], ◌∷◌};
+ghost use Rattle.sl_top.specs.Request.{AsksFor, AsksNothing, defaults};
+
+use crate::no_memory::NoMemory;
+use std::alloc::Global;
+use ty_prog::Name;
+
+/// How a program is to be run.
+#[derive(Debug, Drop)]
+pub struct Options {
+    /// The most steps, from 1 to 50,000,000.
+    pub budget: u32,
+    /// How many steps a thread takes in its turn of a round robin, from 1 to 1,000.
+    pub quantum: u32,
+    /// The file of the turns to be made, in place of a round robin.
+    pub turns: Option<Name>,
+    /// The file in which the schedule is recorded.
+    pub save: Option<Name>,
+    /// Whether the trace tells the thread of each event.
+    pub trace: bool,
+}
+
+/// What a list of words asks for.
+#[derive(Debug, Drop)]
+pub enum Request {
+    Run { file: Name, options: Options },
+}
+
+/// The request that the words make, which are those behind the program's name.
+pub fn request_of(alloc: Global, words: &[Name]) -> Result<Option<Request>, NoMemory>
+    ensures { IfOk result (λ found. MatchOption found (AsksNothing words.now) (AsksFor words.now)) }
+{
+    match words {
+        [command, file] if command.as_str() == "run" => Ok(Some(Request::Run {
+            file: file.copy(alloc)?,
+            options: default_options(),
+        })),
+        _ => Ok(None),
+    }
+}
+
+fn default_options() -> Options
+    ensures { result ≡ defaults }
+{
+    Options {
+        budget: 10_000_000,
+        quantum: 50,
+        turns: None,
+        save: None,
+        trace: false,
+    }
+}
