@@ -1,0 +1,4 @@
+mod fakes;
+mod outside;
+mod requests;
+mod runs;
