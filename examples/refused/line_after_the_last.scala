@@ -1,0 +1,6 @@
+object Main {
+  def main(): Unit = {
+    println(1)
+  }
+}
+
