@@ -1,4 +1,4 @@
+mod calls;
 mod fakes;
 mod outside;
 mod requests;
-mod runs;
