@@ -1,21 +1,10 @@
-//! Schedules of threads: which thread takes the next steps.
+//! Schedules of threads, and what a run over turns is.
 #![tactic(auto)]
 
+mod laws;
 mod turn;
 
+pub use laws::{
+    bound_is_needed, composition, cycles, implementation, invariants, plans, replay, simulation,
+};
 pub use turn::Turn;
-
-#[cfg(test)]
-mod tests {
-    use super::*;
-
-    #[test]
-    fn turn_has_its_parts(rt: HostRuntime) {
-        let turn = Turn {
-            thread: 1,
-            count: 20,
-        };
-        assert_eq!(rt; (turn.thread, turn.count), (1, 20));
-        assert_ne!(rt; turn, Turn { thread: 2, ..turn });
-    }
-}

@@ -1,0 +1,9 @@
+pub mod Composes
+pub mod Cycling
+pub mod Determined
+pub mod Keeping
+pub mod Planning
+pub mod Refining
+pub mod Replaying
+pub mod Simulated
+pub mod Zero

@@ -1,0 +1,5 @@
+pub mod System
+pub mod Waiting
+pub mod Refines
+pub mod Simulates
+pub mod Planned
