@@ -1,3 +1,7 @@
-pub mod Bits
 pub mod Congruent
-pub mod Wrapped
+pub mod Operators
+pub mod Quotient
+pub mod Remainder
+pub mod Spelled
+pub mod Widths
+pub mod Written

@@ -1,3 +1,7 @@
+mod ints;
+mod literals;
+mod longs;
+
 use super::*;
 use std::test::Fail;
 
@@ -65,6 +69,17 @@ fn decimal_text(rt: HostRuntime) -> Result<(), Fail> {
         let mut text = Vec::new(rt.alloc());
         put_i32(n, &mut text)?;
         assert_eq!(rt; text.as_slice(), want.as_bytes());
+    }
+    for (n, want) in [
+        (0, "0"),
+        (-1, "-1"),
+        (i64::MIN, "-9223372036854775808"),
+        (i64::MAX, "9223372036854775807"),
+    ] {
+        let mut text = Vec::from_slice(rt.alloc(), b"n=")?;
+        put_i64(n, &mut text)?;
+        assert_eq!(rt; text.as_slice().starts_with(b"n="), true);
+        assert_eq!(rt; &text.as_slice()[2..], want.as_bytes());
     }
     Ok(())
 }

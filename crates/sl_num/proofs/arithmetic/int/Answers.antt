@@ -1,32 +1,33 @@
 use Rattle.std.proofs.Common.{FitsSigned}
 use Rattle.std.specs.Int.{w32}
-use Rattle.sl_num.proofs.Wrapped.{wrapping_add_signed32, wrapping_sub_signed32, wrapping_mul_signed32}
-use Rattle.sl_num.proofs.Bits.{and_signed32, or_signed32, xor_signed32, shl-shifted_left, shr-shifted_right_unsigned}
+use Rattle.sl_num.proofs.Widths.{read32}
+use Rattle.sl_num.proofs.Operators.{wrapping_add-signed, wrapping_sub-signed, wrapping_mul-signed, and-signed, or-signed, xor-signed, shl-left_shift, shr-unsigned_right_shift}
 use Rattle.sl_num.proofs.arithmetic.int.Goals as goal
 
 pub returns-in-Add : goal.returns-in-Add
-returns-in-Add c = rw c.in-Add.is (wrapping_add_signed32 _ _ c.ranges.a c.ranges.b)
+returns-in-Add c = rw c.in-Add.is (wrapping_add-signed w32 read32 _ _ c.ranges.a c.ranges.b)
 
 pub returns-in-Sub : goal.returns-in-Sub
-returns-in-Sub c = rw c.in-Sub.is (wrapping_sub_signed32 _ _ c.ranges.a c.ranges.b)
+returns-in-Sub c = rw c.in-Sub.is (wrapping_sub-signed w32 read32 _ _ c.ranges.a c.ranges.b)
 
 pub returns-in-Mul : goal.returns-in-Mul
-returns-in-Mul c = rw c.in-Mul.is (wrapping_mul_signed32 _ _ c.ranges.a c.ranges.b)
+returns-in-Mul c = rw c.in-Mul.is (wrapping_mul-signed w32 read32 _ _ c.ranges.a c.ranges.b)
 
 pub returns-in-And : goal.returns-in-And
-returns-in-And c = rw c.in-And.is (and_signed32 _ _ c.ranges.a c.ranges.b)
+returns-in-And c = rw c.in-And.is (and-signed w32 read32 _ _ c.ranges.a c.ranges.b)
 
 pub returns-in-Or : goal.returns-in-Or
-returns-in-Or c = rw c.in-Or.is (or_signed32 _ _ c.ranges.a c.ranges.b)
+returns-in-Or c = rw c.in-Or.is (or-signed w32 read32 _ _ c.ranges.a c.ranges.b)
 
 pub returns-in-Xor : goal.returns-in-Xor
-returns-in-Xor c = rw c.in-Xor.is (xor_signed32 _ _ c.ranges.a c.ranges.b)
+returns-in-Xor c = rw c.in-Xor.is (xor-signed w32 read32 _ _ c.ranges.a c.ranges.b)
 
 pub returns-in-Shl : goal.returns-in-Shl
 returns-in-Shl c =
-    rw c.in-Shl.is (shl-shifted_left _ _ _ c.ranges.a c.ranges.b c.shift_count.ensures.value c.shift_count.ensures.below)
+    rw c.in-Shl.is (shl-left_shift w32 read32 _ _ _ c.ranges.a c.ranges.b c.shift_count.ensures.value c.shift_count.ensures.below)
 
 pub returns-in-Ushr : goal.returns-in-Ushr
 returns-in-Ushr c =
     let fits : FitsSigned w32 c.cast_signed.result = record { sfits = c.cast_signed.type_inv } in
-    rw c.in-Ushr.is (shr-shifted_right_unsigned _ _ _ _ _ c.ranges.a c.ranges.b fits c.cast_unsigned.ensures c.shift_count-in-Ushr.ensures.value c.cast_signed.ensures)
+    rw c.in-Ushr.is (shr-unsigned_right_shift w32 read32 _ _ _ _ _ c.ranges.a c.ranges.b fits
+    c.cast_unsigned.ensures c.shift_count-in-Ushr.ensures.value c.cast_signed.ensures)
