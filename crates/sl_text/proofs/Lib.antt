@@ -1,0 +1,4 @@
+pub mod Sequences
+pub mod Spelling
+pub mod Lines
+pub mod Fronts
