@@ -38,6 +38,7 @@ fn validated(bytes: &[u8]) -> Result<&str, u32>
     }
 }
 
+// The characters of a text.
 fn collected(alloc: Global, text: &str) -> Result<Vec<char>, AllocError>
     ensures { IfOk result (λ v. v.items ≡ chars text.now) }
 {

@@ -11,6 +11,7 @@ pub fn place(text: &Text, at: u32) -> Spot
     requires { at ≤ length text.now }
     ensures { IsSpot text.now at result.line result.column }
 {
+    // What `len` ensures bounds the line and the column.
     let _length = text.len();
     let mut line = 1;
     let mut column = 1;

@@ -119,7 +119,8 @@ fn first_ill_formed_sequence(rt: HostRuntime) -> Result<(), Fail> {
     Ok(())
 }
 
-// The bytes of a character, and its code: the first and the last of each row of the table of well-formed sequences.
+// The bytes of a character and its code: the first and the last of each row of the table of well-formed
+// sequences, and some more.
 static SEQUENCES: [(&[u8], u32); 24] = [
     (b"\x00", 0x0),
     (b"\x7F", 0x7F),
