@@ -1,0 +1,12 @@
+pub mod Members
+pub mod Ancestors
+pub mod Gathered
+pub mod Merges
+pub mod Exists
+pub mod Within
+pub mod Tables
+pub mod Search
+pub mod Counts
+pub mod Children
+pub mod Settled
+pub mod Whole

@@ -1,0 +1,4 @@
+pub mod Fault
+pub mod Gather
+pub mod Linear
+pub mod Order
