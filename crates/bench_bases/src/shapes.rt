@@ -4,7 +4,7 @@ ghost use Rattle.ty_linear.specs.Linear.{AreClasses};
 use std::alloc::{AllocError, Global};
 use ty_linear::linearise;
 
-/// The parents of classes in a shape: `chain`, `fan` or `diamonds`; None where there is no such shape.
+// The parents of a class in a shape: `chain`, `fans`, and for every other word diamonds.
 fn parents_of(alloc: Global, shape: &str, class: u32) -> Result<Vec<u32>, AllocError> {
     let mut parents = Vec::new(alloc);
     match shape {
