@@ -11,10 +11,10 @@ flip : (a b : ℕ) → nat_eq a b ≡ false → nat_eq b a ≡ false
 flip a b e = ne_eqb b a (λ same. eqb-false a b e (sym same))
 
 -- v is none of these
-abbrev Lacks : List ℕ → ℕ → Type 0
+abbrev pub Lacks : List ℕ → ℕ → Type 0
 Lacks us v = AllByRecursion (λ u. nat_eq v u ≡ false) us
 
-lacks_from_test : (u : ℕ) (vs : List ℕ) → list_any (nat_eq u) vs ≡ false → Lacks vs u
+pub lacks_from_test : (u : ℕ) (vs : List ℕ) → list_any (nat_eq u) vs ≡ false → Lacks vs u
 lacks_from_test u [] e = tt
 lacks_from_test u (v ∷ vs) e = go (lacks_from_test u vs) (nat_eq u v) refl e
   where
@@ -35,7 +35,7 @@ apart_one : (t : ℕ) (vs : List ℕ) → Lacks vs t → AllByRecursion (Lacks (
 apart_one t [] h = tt
 apart_one t (v ∷ vs) h = ((flip t v h.0, tt), apart_one t vs h.1)
 
-abbrev IsCycle : (ℕ → ℕ → Type 0) → List ℕ → Type 0
+abbrev pub IsCycle : (ℕ → ℕ → Type 0) → List ℕ → Type 0
 IsCycle R [] = ⊥
 IsCycle R (t ∷ ts) = IsDistinct nat_eq (t ∷ ts) × Chain R t ts t
 

@@ -7,19 +7,19 @@ use Rattle.runs.specs.Planned.{Moves, IsStuck, Rests, IsOver, ComesNext, in_circ
 use Rattle.runs.proofs.Planning.{rests}
 use Rattle.runs.proofs.Replaying.{tries-add}
 
-moves_rests : {S : Type 0} (n : Next S) → Moves n → Rests n → ⊥
+pub moves_rests : {S : Type 0} (n : Next S) → Moves n → Rests n → ⊥
 moves_rests (Goes x) m r = r
 moves_rests Waits m r = m
 moves_rests Ended m r = m
 moves_rests Stuck m r = m
 
-stuck_rests : {S : Type 0} (n : Next S) → IsStuck n → Rests n → ⊥
+pub stuck_rests : {S : Type 0} (n : Next S) → IsStuck n → Rests n → ⊥
 stuck_rests (Goes x) m r = m
 stuck_rests Waits m r = m
 stuck_rests Ended m r = m
 stuck_rests Stuck m r = r
 
-moves_stuck : {S : Type 0} (n : Next S) → Moves n → IsStuck n → ⊥
+pub moves_stuck : {S : Type 0} (n : Next S) → Moves n → IsStuck n → ⊥
 moves_stuck (Goes x) m r = r
 moves_stuck Waits m r = m
 moves_stuck Ended m r = m

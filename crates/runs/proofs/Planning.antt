@@ -11,7 +11,7 @@ round_robin_within s quantum left last r (turn ∷ rest) h =
     let k = round_robin_within s quantum (left - turn.count) turn.thread (tries s turn.thread turn.count r) rest h.5 in
     (omega (arith, h.2, k.0), (h.1, h.3, k.1))
 
-one_more_same : (t : ℕ) (moves : ℕ → ℕ) → one_more t moves t ≡ suc (moves t)
+pub one_more_same : (t : ℕ) (moves : ℕ → ℕ) → one_more t moves t ≡ suc (moves t)
 one_more_same t moves = rw (eq-eqb t t refl)
 
 module _ {Event Place S : Type 0} (s : System Event Place S) (t : ℕ) where
@@ -27,7 +27,7 @@ module _ {Event Place S : Type 0} (s : System Event Place S) (t : ℕ) where
       go same Stuck is = rw is same
 
   -- after n tries t has made no fewer moves
-  moves_rise : (n : ℕ) (r : Reached S) → r.moves t ≤ (tries s t n r).moves t
+  pub moves_rise : (n : ℕ) (r : Reached S) → r.moves t ≤ (tries s t n r).moves t
   moves_rise zero r = omega arith
   moves_rise (suc n) r = go (λ q. moves_rise n q) (s.next r.state t) refl
     where

@@ -3,3 +3,10 @@ pub mod Waiting
 pub mod Refines
 pub mod Simulates
 pub mod Planned
+pub mod Trying
+pub mod Made
+pub mod Ends
+pub mod Circle
+pub mod Cut
+pub mod WaitTable
+pub mod Walks

@@ -79,6 +79,15 @@ pub data Plan : Type 0 where
   RoundRobin : (quantum : ℕ) → Plan
   Given : (turns : List Turn) → Plan
 
+-- a round robin has a positive quantum
+abbrev pub HasQuantum : Plan → Type 0
+HasQuantum (RoundRobin quantum) = 1 ≤ quantum
+HasQuantum (Given turns) = Unit {0}
+
+-- a thread that can move has a number of a thread that is there
+abbrev pub MoversAreThere : {Event Place S : Type 0} → System Event Place S → S → Type 0
+MoversAreThere s x = (t : ℕ) → Moves (s.next x t) → (1 ≤ t) × (t ≤ s.threads x)
+
 -- the plan and the budget allow this schedule, from the first state
 abbrev pub Planned : {Event Place S : Type 0} → System Event Place S → Plan → ℕ → List Turn → Type 0
 Planned s (RoundRobin quantum) budget schedule = IsRoundRobin s quantum budget 0 (start s) schedule

@@ -1,6 +1,6 @@
 -- Ends and waits: which threads have ended, which wait and for whom, who frees them, and cycles of waiting threads.
 use Rattle.std.specs.Prelude.{◌≡◌, ◌≢◌, ℕ, ◌<◌, ◌≤◌, nat_eq, List, [], ◌∷◌, true, false}
-use Rattle.std.specs.List.{IsDistinct}
+use Rattle.std.specs.List.{IsDistinct, All}
 use Rattle.runs.specs.declared.turn.Turn.{Turn}
 use Rattle.runs.specs.System.{Waits, Ended, System, reach}
 
@@ -42,6 +42,11 @@ Chain R t (u ∷ us) end = R t u × Chain R u us end
 abbrev pub Cycle : {Event Place S : Type 0} → System Event Place S → S → List ℕ → Type 0
 Cycle s x [] = ⊥
 Cycle s x (t ∷ ts) = IsDistinct nat_eq (t ∷ ts) × Chain (WaitsFor s x) t ts t
+
+-- the cycle that is reported: it holds the least thread of any cycle, and begins with it
+abbrev pub LeastCycle : {Event Place S : Type 0} → System Event Place S → S → List ℕ → Type 0
+LeastCycle s x [] = ⊥
+LeastCycle s x (t ∷ ts) = Cycle s x (t ∷ ts) × ((us : List ℕ) → Cycle s x us → All (λ u. t ≤ u) us)
 
 -- where every unfinished thread waits and there is one, some wait in a cycle
 abbrev pub CyclesWhereAllWait : {Event Place S : Type 0} → System Event Place S → S → Type 0

@@ -1,12 +1,12 @@
 //! The laws of runs and refinement. Each function has an empty body: its contract is the law.
 
-ghost use Rattle.std.specs.Prelude.{List, ◌≡◌, ◌++◌, ℕ, ◌+◌, ◌*◌, ◌^◌, ◌≤◌, Bool};
+ghost use Rattle.std.specs.Prelude.{List, ◌≡◌, ◌++◌, ℕ, ◌+◌, ◌*◌, ◌^◌, ◌≤◌, ◌⊎◌, Bool};
 ghost use Rattle.runs.specs.declared.turn.Turn.{Turn};
-ghost use Rattle.runs.specs.Planned.{AreWhole, Plan, Planned, total};
+ghost use Rattle.runs.specs.Planned.{AreWhole, HasQuantum, MoversAreThere, Plan, Planned, total};
 ghost use Rattle.runs.specs.Refines.{Agree, Implements, Refines};
 ghost use Rattle.runs.specs.Simulates.{AgreePlainly, Pairs, Simulates, SimulatesThere, ThreadAgrees};
 ghost use Rattle.runs.specs.System.{Goes, reach, Reached, run, start, System, tries};
-ghost use Rattle.runs.specs.Waiting.{HasCycles, UnfinishedAreThere, WaitsForUnfinished};
+ghost use Rattle.runs.specs.Waiting.{Cycle, DoesWait, HasCycles, LeastCycle, UnfinishedAreThere, WaitsForUnfinished};
 
 /// Refinements compose, and a larger bound serves too.
 pub fn composition<E, P, A, B, C>()
@@ -54,6 +54,14 @@ pub fn cycles<E, P, A>()
         → ((turns : List Turn) → WaitsForUnfinished s (reach s turns).state) → HasCycles s }
 {}
 
+/// A state has at most one least cycle, and where finitely many threads wait it has one, or no cycle at all.
+pub fn least_cycle<E, P, A>()
+    ensures determined { (s : System E P A) (x : A) (one other : List ℕ)
+        → LeastCycle s x one → LeastCycle s x other → one ≡ other }
+    ensures decided { (s : System E P A) (x : A) (n : ℕ) → ((t : ℕ) → DoesWait s x t → t ≤ n)
+        → ((ts : List ℕ) × LeastCycle s x ts) ⊎ ((ts : List ℕ) → Cycle s x ts → ⊥) }
+{}
+
 /// What refines a system with the law of cycles implements it.
 pub fn implementation<E, P, A, B>()
     ensures { (low : System E P A) (up : System E P B) (b : ℕ)
@@ -67,10 +75,14 @@ pub fn replay<E, P, A>()
 {}
 
 /// A planned schedule keeps its budget, each of its turns has a move and makes all its moves, and the plan
-/// and the budget allow no other.
+/// and the budget allow no other. Where each thread that can move is there, every plan with a positive
+/// quantum has a schedule, whatever the budget.
 pub fn plans<E, P, A>()
     ensures within { (s : System E P A) (plan : Plan) (budget : ℕ) (schedule : List Turn)
         → Planned s plan budget schedule → (total schedule ≤ budget) × AreWhole s (start s) schedule }
     ensures determined { (s : System E P A) (plan : Plan) (budget : ℕ) (one other : List Turn)
         → Planned s plan budget one → Planned s plan budget other → one ≡ other }
+    ensures scheduled { (s : System E P A) (plan : Plan) (budget : ℕ) → HasQuantum plan
+        → ((turns : List Turn) → MoversAreThere s (reach s turns).state)
+        → (schedule : List Turn) × Planned s plan budget schedule }
 {}

@@ -1,0 +1,7 @@
+use Rattle.std.proofs.Common.{◌<◌}
+use Rattle.runs.proofs.Circling.{Passed}
+use Rattle.runs.proofs.circle.next_after.Given as goal
+
+abbrev pub invariant-loop-passed : goal.invariant-loop-passed
+invariant-loop-passed g l =
+    (l.before < l.threads) × Passed (g.M.Threaded.system l.machine) (g.M.Threaded.state l.machine) l.threads l.last l._passed l.before

@@ -1,0 +1,37 @@
+//! Whether a run is over.
+
+ghost use Rattle.std.specs.Prelude.{◌↔◌, MatchOption, IsTrue};
+ghost use Rattle.runs.specs.Ends.{NoneMoves};
+ghost use Rattle.runs.specs.Planned.{Moves};
+
+use crate::ability::Ability;
+use crate::threaded::Threaded;
+
+/// Whether a thread can move.
+pub fn can_move<M: Threaded>(machine: &M, thread: u32) -> bool
+    ensures { IsTrue result ↔ Moves ((M.system machine.now).next (M.state machine.now) thread) }
+{
+    match machine.what_next(thread) {
+        Ability::Moves => true,
+        _ => false,
+    }
+}
+
+/// A thread that can move: one of these two, or the least one.
+pub fn mover<M: Threaded>(machine: &M, one: u32, other: u32) -> Option<u32>
+    ensures { MatchOption result (NoneMoves (M.system machine.now) (M.state machine.now))
+        (λ thread. Moves ((M.system machine.now).next (M.state machine.now) thread)) }
+{
+    if can_move(machine, one) {
+        return Some(one);
+    }
+    if can_move(machine, other) {
+        return Some(other);
+    }
+    for before in 0..machine.threads() {
+        if can_move(machine, before + 1) {
+            return Some(before + 1);
+        }
+    }
+    None
+}
