@@ -1,8 +1,8 @@
 -- A file has more bytes than its run has steps.
 use Rattle.std.proofs.Common.{ℕ, ◌+◌, ◌*◌, ◌≤◌, List, [], ◌∷◌, ◌++◌, length, replicate, ap, arith, codes, decimal, flat_map, length-append, sum_by}
 use Rattle.std.proofs.lemmas.List.Sums.{sum_by-cons}
-use Rattle.ty_prog.specs.declared.prim_op.PrimOp.{PrimOp}
-use Rattle.ty_prog.specs.declared.prim_op.PrimOp.TheVariants.{Add, Sub, Mul}
+use Rattle.sl_top.specs.declared.operator.Operator.{Operator}
+use Rattle.sl_top.specs.declared.operator.Operator.TheVariants.{Add, Sub, Mul}
 use Rattle.sl_top.specs.declared.chain.Term.{Term}
 use Rattle.sl_top.specs.declared.chain.Chain.{Chain}
 use Rattle.sl_top.specs.Listing.{IsListing, line, AreLines, term_text, operator_text, chain_text, print_text, body_texts}
@@ -10,7 +10,7 @@ use Rattle.sl_top.specs.Value.{size, steps_of}
 
 term_length : (t : Term) → 3 ≤ length (term_text t)
 term_length t = operator_length t.op (decimal t.literal) where
-  operator_length : (op : PrimOp) (more : List ℕ) → 3 ≤ length (operator_text op ++ more)
+  operator_length : (op : Operator) (more : List ℕ) → 3 ≤ length (operator_text op ++ more)
   operator_length Add more = omega arith
   operator_length Sub more = omega arith
   operator_length Mul more = omega arith

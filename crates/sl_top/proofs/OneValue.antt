@@ -5,44 +5,44 @@ use Rattle.std.specs.List.{fold}
 use Rattle.std.proofs.lemmas.List.Sums.{fold-append}
 use Rattle.sl_num.specs.declared.int_op.IntOp.TheVariants as int
 use Rattle.sl_num.specs.Int.{int_value}
-use Rattle.ty_prog.specs.declared.prim_op.PrimOp.{PrimOp}
-use Rattle.ty_prog.specs.declared.prim_op.PrimOp.TheVariants as prim
+use Rattle.sl_top.specs.declared.operator.Operator.{Operator}
+use Rattle.sl_top.specs.declared.operator.Operator.TheVariants as operator
 use Rattle.sl_top.specs.declared.chain.Term.{Term}
 use Rattle.sl_top.specs.Value.{Value, Product, product, additive, literal, times, IsAdditive, int_op, term}
 
 -- what waits to the left of a product, if anything does, and the product so far
 record Partial : Type 0 where
-  left : Option (ℤ × PrimOp)
+  left : Option (ℤ × Operator)
   factor : ℤ
 
-abbrev partial : Option (ℤ × PrimOp) → ℤ → Partial
+abbrev partial : Option (ℤ × Operator) → ℤ → Partial
 partial left factor = record { left = left; factor = factor }
 
-abbrev joined : Option (ℤ × PrimOp) → ℤ → ℤ
+abbrev joined : Option (ℤ × Operator) → ℤ → ℤ
 joined None y = y
 joined (Some p) y = int_value (int_op p.1) p.0 y
 
 abbrev total : Partial → ℤ
 total s = joined s.left s.factor
 
-abbrev with_term : PrimOp → ℕ → Partial → Partial
-with_term prim.Add m s = partial (Some (total s, prim.Add)) (pos m)
-with_term prim.Sub m s = partial (Some (total s, prim.Sub)) (pos m)
-with_term prim.Mul m s = partial s.left (int_value int.Mul s.factor (pos m))
+abbrev with_term : Operator → ℕ → Partial → Partial
+with_term operator.Add m s = partial (Some (total s, operator.Add)) (pos m)
+with_term operator.Sub m s = partial (Some (total s, operator.Sub)) (pos m)
+with_term operator.Mul m s = partial s.left (int_value int.Mul s.factor (pos m))
 
 abbrev next : Partial → Term → Partial
 next s t = with_term t.op t.literal s
 
-with_term-additive : (op : PrimOp) → IsAdditive op → (m : ℕ) (s : Partial) → with_term op m s ≡ partial (Some (total s, op)) (pos m)
-with_term-additive prim.Add h m s = refl
-with_term-additive prim.Sub h m s = refl
-with_term-additive prim.Mul h m s = absurd h
+with_term-additive : (op : Operator) → IsAdditive op → (m : ℕ) (s : Partial) → with_term op m s ≡ partial (Some (total s, op)) (pos m)
+with_term-additive operator.Add h m s = refl
+with_term-additive operator.Sub h m s = refl
+with_term-additive operator.Mul h m s = absurd h
 
 -- a product from the left
-fold-Product : {n : ℕ} {rest : List Term} {x : ℤ} → Product n rest x → (left : Option (ℤ × PrimOp)) → fold next (partial left (pos n)) rest ≡ partial left x
+fold-Product : {n : ℕ} {rest : List Term} {x : ℤ} → Product n rest x → (left : Option (ℤ × Operator)) → fold next (partial left (pos n)) rest ≡ partial left x
 fold-Product literal left = refl
 fold-Product {n} (times before m p) left =
-    fold-append next (partial left (pos n)) before (term prim.Mul m ∷ []) ∙ ap (λ s. with_term prim.Mul m s) (fold-Product p left)
+    fold-append next (partial left (pos n)) before (term operator.Mul m ∷ []) ∙ ap (λ s. with_term operator.Mul m s) (fold-Product p left)
 
 -- a chain from the left
 total-Value : {n : ℕ} {rest : List Term} {v : ℤ} → Value n rest v → total (fold next (partial None (pos n)) rest) ≡ v
@@ -55,15 +55,15 @@ total-Value {n} (additive before op m after x y h b a) =
     ∙ ap (λ w. int_value (int_op op) w y) (total-Value b)
 
 -- one more term
-Value-push : {n : ℕ} {rest : List Term} {v : ℤ} → Value n rest v → (op : PrimOp) (m : ℕ) → (w : ℤ) × Value n (rest ++ term op m ∷ []) w
-Value-push {rest = rest} {v = v} h prim.Add m = (int_value int.Add v (pos m), additive rest prim.Add m [] v (pos m) tt h literal)
-Value-push {rest = rest} {v = v} h prim.Sub m = (int_value int.Sub v (pos m), additive rest prim.Sub m [] v (pos m) tt h literal)
-Value-push (product {rest = rest} {x = x} p) prim.Mul m = (int_value int.Mul x (pos m), product (times rest m p))
-Value-push {n} (additive before op k after x y h b a) prim.Mul m =
+Value-push : {n : ℕ} {rest : List Term} {v : ℤ} → Value n rest v → (op : Operator) (m : ℕ) → (w : ℤ) × Value n (rest ++ term op m ∷ []) w
+Value-push {rest = rest} {v = v} h operator.Add m = (int_value int.Add v (pos m), additive rest operator.Add m [] v (pos m) tt h literal)
+Value-push {rest = rest} {v = v} h operator.Sub m = (int_value int.Sub v (pos m), additive rest operator.Sub m [] v (pos m) tt h literal)
+Value-push (product {rest = rest} {x = x} p) operator.Mul m = (int_value int.Mul x (pos m), product (times rest m p))
+Value-push {n} (additive before op k after x y h b a) operator.Mul m =
     let w : ℤ = int_value (int_op op) x (int_value int.Mul y (pos m)) in (
       w,
-      subst (λ ts. Value n ts w) (sym (append_assoc before (term op k ∷ after) (term prim.Mul m ∷ [])))
-          (additive before op k (after ++ term prim.Mul m ∷ []) x (int_value int.Mul y (pos m)) h b (times after m a)),
+      subst (λ ts. Value n ts w) (sym (append_assoc before (term op k ∷ after) (term operator.Mul m ∷ [])))
+          (additive before op k (after ++ term operator.Mul m ∷ []) x (int_value int.Mul y (pos m)) h b (times after m a)),
     )
 
 -- the terms from the front

@@ -1,19 +1,19 @@
 -- Terms and chains.
 use Rattle.std.proofs.Common.{◌≡◌, ◌≢◌, ℕ, ◌≤◌, List, [], ◌∷◌, ◌++◌, get_or, refl, sym, ap, subst, ◌∙◌, append_assoc, arith, decimal, flat_map}
-use Rattle.ty_prog.specs.declared.prim_op.PrimOp.{PrimOp}
-use Rattle.ty_prog.specs.declared.prim_op.PrimOp.TheVariants.{Add, Sub, Mul}
+use Rattle.sl_top.specs.declared.operator.Operator.{Operator}
+use Rattle.sl_top.specs.declared.operator.Operator.TheVariants.{Add, Sub, Mul}
 use Rattle.sl_top.specs.declared.chain.Term.{Term}
 use Rattle.sl_top.specs.declared.chain.Chain.{Chain}
 use Rattle.sl_top.specs.Listing.{operator_text, term_text}
 use Rattle.sl_top.specs.Reading.{NoDigit, SpellsLiteral, SpellsTerm, SpellsTerms, SpellsChain, IsRead, NoneRead}
 use Rattle.sl_top.proofs.Going.{SoFar, one_more, all_read, only_these, no_reading}
 
-no_digit_behind_operator : (op : PrimOp) (rest : List ℕ) → NoDigit (operator_text op ++ rest)
+no_digit_behind_operator : (op : Operator) (rest : List ℕ) → NoDigit (operator_text op ++ rest)
 no_digit_behind_operator Add rest h = absurd (omega (arith, h.0))
 no_digit_behind_operator Sub rest h = absurd (omega (arith, h.0))
 no_digit_behind_operator Mul rest h = absurd (omega (arith, h.0))
 
-operator_apart : (op : PrimOp) (rest end : List ℕ) → operator_text op ++ rest ≢ 41 ∷ end
+operator_apart : (op : Operator) (rest end : List ℕ) → operator_text op ++ rest ≢ 41 ∷ end
 operator_apart Add rest end e = let h : 32 ≡ 41 = ap (λ (x : List ℕ). get_or x 0 0) e in absurd (omega (arith, h))
 operator_apart Sub rest end e = let h : 32 ≡ 41 = ap (λ (x : List ℕ). get_or x 0 0) e in absurd (omega (arith, h))
 operator_apart Mul rest end e = let h : 32 ≡ 41 = ap (λ (x : List ℕ). get_or x 0 0) e in absurd (omega (arith, h))

@@ -4,8 +4,8 @@ use Rattle.std.proofs.lemmas.List.{append-nil}
 use Rattle.std.proofs.lemmas.List.Sums.{sum_by-cons}
 use Rattle.sl_num.specs.declared.int_op.IntOp.TheVariants as int
 use Rattle.sl_num.specs.Int.{int_value}
-use Rattle.ty_prog.specs.declared.prim_op.PrimOp.{PrimOp}
-use Rattle.ty_prog.specs.declared.prim_op.PrimOp.TheVariants as prim
+use Rattle.sl_top.specs.declared.operator.Operator.{Operator}
+use Rattle.sl_top.specs.declared.operator.Operator.TheVariants as operator
 use Rattle.ty_prog.specs.declared.event.Event.{Event}
 use Rattle.sl_top.specs.declared.chain.Term.{Term}
 use Rattle.sl_top.specs.declared.chain.Chain.{Chain}
@@ -33,7 +33,7 @@ leaves_then x y v w behind operands trace steps f g =
     ∙ ap (λ n. after_code behind (machine_with (w ∷ v ∷ operands) trace n)) (omega (arith, length-append x y))
 
 -- an operation on what two codes leave
-leaves_operation : (x y : List Instruction) (op : PrimOp) (v w : ℤ) → Leaves x v → Leaves y w → Leaves (x ++ (y ++ operation_of op ∷ [])) (int_value (int_op op) v w)
+leaves_operation : (x y : List Instruction) (op : Operator) (v w : ℤ) → Leaves x v → Leaves y w → Leaves (x ++ (y ++ operation_of op ∷ [])) (int_value (int_op op) v w)
 leaves_operation x y op v w f g behind operands trace steps =
     let joined : (x ++ (y ++ operation_of op ∷ [])) ++ behind ≡ (x ++ y) ++ (operation_of op ∷ behind) = simp append_assoc in
     let counted : steps + length (x ++ y) + 1 ≡ steps + length (x ++ (y ++ operation_of op ∷ [])) = omega (arith, length-append x y, length-append x (y ++ operation_of op ∷ []), length-append y (operation_of op ∷ [])) in
@@ -42,10 +42,10 @@ leaves_operation x y op v w f g behind operands trace steps =
     ∙ operation op v w behind operands trace (steps + length (x ++ y))
     ∙ ap (λ n. after_code behind (machine_with (int_value (int_op op) v w ∷ operands) trace n)) counted
   where
-    operation : (op : PrimOp) (v w : ℤ) (behind : List Instruction) (operands : List ℤ) (trace : List Event) (steps : ℕ) → after_code (operation_of op ∷ behind) (machine_with (w ∷ v ∷ operands) trace steps) ≡ after_code behind (machine_with (int_value (int_op op) v w ∷ operands) trace (steps + 1))
-    operation prim.Add v w behind operands trace steps = refl
-    operation prim.Sub v w behind operands trace steps = refl
-    operation prim.Mul v w behind operands trace steps = refl
+    operation : (op : Operator) (v w : ℤ) (behind : List Instruction) (operands : List ℤ) (trace : List Event) (steps : ℕ) → after_code (operation_of op ∷ behind) (machine_with (w ∷ v ∷ operands) trace steps) ≡ after_code behind (machine_with (int_value (int_op op) v w ∷ operands) trace (steps + 1))
+    operation operator.Add v w behind operands trace steps = refl
+    operation operator.Sub v w behind operands trace steps = refl
+    operation operator.Mul v w behind operands trace steps = refl
 
 leaves_push : (n : ℕ) → Leaves (Push (pos n) ∷ []) (pos n)
 leaves_push n behind operands trace steps = refl
@@ -54,7 +54,7 @@ product_leaves : {n : ℕ} {rest : List Term} {code : List Instruction} → Prod
 product_leaves {n} literal = (pos n, value.literal, leaves_push n)
 product_leaves (times before m {x = code} p) =
     let left = product_leaves p in
-    (int_value int.Mul left.0 (pos m), value.times before m left.1, leaves_operation code (Push (pos m) ∷ []) prim.Mul left.0 (pos m) left.2 (leaves_push m))
+    (int_value int.Mul left.0 (pos m), value.times before m left.1, leaves_operation code (Push (pos m) ∷ []) operator.Mul left.0 (pos m) left.2 (leaves_push m))
 
 chain_leaves : {n : ℕ} {rest : List Term} {code : List Instruction} → ChainCode n rest code → (v : ℤ) × Value n rest v × Leaves code v
 chain_leaves (product p) = let left = product_leaves p in (left.0, value.product left.1, left.2)
@@ -88,7 +88,7 @@ code_prints (c ∷ cs) code p =
 -- one instruction for each part
 length-ProductCode : {n : ℕ} {rest : List Term} {code : List Instruction} → ProductCode n rest code → length code ≡ 1 + 2 * length rest
 length-ProductCode literal = refl
-length-ProductCode (times before m {x = code} p) = omega (arith, length-ProductCode p, length-append code (Push (pos m) ∷ Mul ∷ []), length-append before (term prim.Mul m ∷ []))
+length-ProductCode (times before m {x = code} p) = omega (arith, length-ProductCode p, length-append code (Push (pos m) ∷ Mul ∷ []), length-append before (term operator.Mul m ∷ []))
 
 length-ChainCode : {n : ℕ} {rest : List Term} {code : List Instruction} → ChainCode n rest code → length code ≡ 1 + 2 * length rest
 length-ChainCode (product p) = length-ProductCode p

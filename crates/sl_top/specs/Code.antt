@@ -1,7 +1,7 @@
 -- The code of a chain: by the splits of its value, each operator behind the code of its two sides.
 use Rattle.std.specs.Prelude.{◌≡◌, ℕ, pos, List, [], ◌∷◌, ◌++◌, Option, Some, None}
-use Rattle.ty_prog.specs.declared.prim_op.PrimOp.{PrimOp}
-use Rattle.ty_prog.specs.declared.prim_op.PrimOp.TheVariants as prim
+use Rattle.sl_top.specs.declared.operator.Operator.{Operator}
+use Rattle.sl_top.specs.declared.operator.Operator.TheVariants as operator
 use Rattle.sl_top.specs.declared.chain.Term.{Term}
 use Rattle.sl_top.specs.declared.chain.Chain.{Chain}
 use Rattle.sl_top.specs.declared.code.Instruction.{Instruction}
@@ -9,21 +9,21 @@ use Rattle.sl_top.specs.declared.code.Instruction.TheVariants.{Push, Add, Sub, M
 use Rattle.sl_top.specs.Value.{IsAdditive, term}
 
 -- the instruction of an operator
-abbrev pub operation_of : PrimOp → Instruction
-operation_of prim.Add = Add
-operation_of prim.Sub = Sub
-operation_of prim.Mul = Mul
+abbrev pub operation_of : Operator → Instruction
+operation_of operator.Add = Add
+operation_of operator.Sub = Sub
+operation_of operator.Mul = Mul
 
 -- the code of literals joined by `*` alone
 pub data ProductCode : ℕ → List Term → List Instruction → Type 0 where
   literal : {n : ℕ} → ProductCode n [] (Push (pos n) ∷ [])
   times : {n : ℕ} (before : List Term) (m : ℕ) {x : List Instruction} → ProductCode n before x
-      → ProductCode n (before ++ term prim.Mul m ∷ []) (x ++ (Push (pos m) ∷ Mul ∷ []))
+      → ProductCode n (before ++ term operator.Mul m ∷ []) (x ++ (Push (pos m) ∷ Mul ∷ []))
 
 -- the code of a chain: what stands before its last `+` or `-`, the product behind it, and the operator
 pub data ChainCode : ℕ → List Term → List Instruction → Type 0 where
   product : {n : ℕ} {rest : List Term} {x : List Instruction} → ProductCode n rest x → ChainCode n rest x
-  additive : {n : ℕ} (before : List Term) (op : PrimOp) (m : ℕ) (after : List Term) (x y : List Instruction)
+  additive : {n : ℕ} (before : List Term) (op : Operator) (m : ℕ) (after : List Term) (x y : List Instruction)
       → IsAdditive op → ChainCode n before x → ProductCode m after y
       → ChainCode n (before ++ term op m ∷ after) (x ++ (y ++ operation_of op ∷ []))
 
@@ -39,18 +39,18 @@ abbrev pub ProgramCode : List Chain → List Instruction → Type 0
 ProgramCode chains code = (prints : List Instruction) × PrintsCode chains prints × (code ≡ prints ++ Return ∷ [])
 
 -- what still has to be emitted for an operator that waits
-abbrev pub waiting_code : Option PrimOp → List Instruction
+abbrev pub waiting_code : Option Operator → List Instruction
 waiting_code None = []
 waiting_code (Some op) = operation_of op ∷ []
 
 -- what is emitted for a term while an operator waits
-abbrev pub term_code : PrimOp → ℕ → Option PrimOp → List Instruction
-term_code prim.Add m waiting = waiting_code waiting ++ Push (pos m) ∷ []
-term_code prim.Sub m waiting = waiting_code waiting ++ Push (pos m) ∷ []
-term_code prim.Mul m waiting = Push (pos m) ∷ Mul ∷ []
+abbrev pub term_code : Operator → ℕ → Option Operator → List Instruction
+term_code operator.Add m waiting = waiting_code waiting ++ Push (pos m) ∷ []
+term_code operator.Sub m waiting = waiting_code waiting ++ Push (pos m) ∷ []
+term_code operator.Mul m waiting = Push (pos m) ∷ Mul ∷ []
 
 -- the operator that waits behind a term
-abbrev pub waiting_after : PrimOp → Option PrimOp → Option PrimOp
-waiting_after prim.Add waiting = Some prim.Add
-waiting_after prim.Sub waiting = Some prim.Sub
-waiting_after prim.Mul waiting = waiting
+abbrev pub waiting_after : Operator → Option Operator → Option Operator
+waiting_after operator.Add waiting = Some operator.Add
+waiting_after operator.Sub waiting = Some operator.Sub
+waiting_after operator.Mul waiting = waiting

@@ -1,8 +1,8 @@
 -- The files that run today: an object `Main` whose `main` prints chains of literals (SLS 1, in the form with braces).
 use Rattle.std.specs.Prelude.{◌≡◌, ℕ, ◌^◌, ◌<◌, List, [], ◌∷◌, ◌++◌, map, flat_map, replicate, codes, decimal}
 use Rattle.std.specs.List.{AllByRecursion}
-use Rattle.ty_prog.specs.declared.prim_op.PrimOp.{PrimOp}
-use Rattle.ty_prog.specs.declared.prim_op.PrimOp.TheVariants.{Add, Sub, Mul}
+use Rattle.sl_top.specs.declared.operator.Operator.{Operator}
+use Rattle.sl_top.specs.declared.operator.Operator.TheVariants.{Add, Sub, Mul}
 use Rattle.sl_top.specs.declared.chain.Term.{Term}
 use Rattle.sl_top.specs.declared.chain.Chain.{Chain}
 
@@ -10,7 +10,7 @@ use Rattle.sl_top.specs.declared.chain.Chain.{Chain}
 abbrev pub IsLiteral : ℕ → Type 0
 IsLiteral n = n < 2 ^ 31
 
-abbrev pub operator_text : PrimOp → List ℕ
+abbrev pub operator_text : Operator → List ℕ
 operator_text Add = codes " + "
 operator_text Sub = codes " - "
 operator_text Mul = codes " * "

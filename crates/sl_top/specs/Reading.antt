@@ -3,7 +3,7 @@ use Rattle.std.specs.Prelude.{◌≡◌, ℕ, List, [], ◌∷◌, ◌++◌, if�
 use Rattle.std.specs.Char.{IsAsciiDigit}
 use Rattle.std.specs.List.{AllByRecursion}
 use Rattle.std.specs.Str.Parse.{AllDigits, digits_value}
-use Rattle.ty_prog.specs.declared.prim_op.PrimOp.{PrimOp}
+use Rattle.sl_top.specs.declared.operator.Operator.{Operator}
 use Rattle.sl_top.specs.declared.chain.Term.{Term}
 use Rattle.sl_top.specs.declared.chain.Chain.{Chain}
 use Rattle.sl_top.specs.Listing.{IsLiteral, operator_text, term_text, chain_text, HasLiterals, body_texts, AreLines}
@@ -41,7 +41,7 @@ HasDigits bytes n rest = (digits : List ℕ) × AllDigits 10 digits × (bytes �
 abbrev pub SpellsLiteral : ℕ → List ℕ → List ℕ → Type 0
 SpellsLiteral n bytes rest = IsLiteral n × (bytes ≡ decimal n ++ rest) × NoDigit rest
 
-abbrev pub SpellsOperator : PrimOp → List ℕ → List ℕ → Type 0
+abbrev pub SpellsOperator : Operator → List ℕ → List ℕ → Type 0
 SpellsOperator op bytes rest = bytes ≡ operator_text op ++ rest
 
 abbrev pub SpellsTerm : Term → List ℕ → List ℕ → Type 0

@@ -2,36 +2,36 @@
 use Rattle.std.specs.Prelude.{ℕ, ℤ, pos, ◌+◌, ◌*◌, List, [], ◌∷◌, ◌++◌, length, sum_by}
 use Rattle.sl_num.specs.declared.int_op.IntOp.{IntOp}
 use Rattle.sl_num.specs.Int.{int_value}
-use Rattle.ty_prog.specs.declared.prim_op.PrimOp.{PrimOp}
-use Rattle.ty_prog.specs.declared.prim_op.PrimOp.TheVariants as prim
+use Rattle.sl_top.specs.declared.operator.Operator.{Operator}
+use Rattle.sl_top.specs.declared.operator.Operator.TheVariants as operator
 use Rattle.sl_num.specs.declared.int_op.IntOp.TheVariants as int
 use Rattle.sl_top.specs.declared.chain.Term.{Term}
 use Rattle.sl_top.specs.declared.chain.Chain.{Chain}
 
 -- the operation of Int that an operator stands for
-abbrev pub int_op : PrimOp → IntOp
-int_op prim.Add = int.Add
-int_op prim.Sub = int.Sub
-int_op prim.Mul = int.Mul
+abbrev pub int_op : Operator → IntOp
+int_op operator.Add = int.Add
+int_op operator.Sub = int.Sub
+int_op operator.Mul = int.Mul
 
-abbrev pub IsAdditive : PrimOp → Type 0
-IsAdditive prim.Add = Unit {0}
-IsAdditive prim.Sub = Unit {0}
-IsAdditive prim.Mul = ⊥
+abbrev pub IsAdditive : Operator → Type 0
+IsAdditive operator.Add = Unit {0}
+IsAdditive operator.Sub = Unit {0}
+IsAdditive operator.Mul = ⊥
 
-abbrev pub term : PrimOp → ℕ → Term
+abbrev pub term : Operator → ℕ → Term
 term op literal = record { op = op; literal = literal }
 
 -- literals joined by `*` alone: what stands before the last one, times the literal behind it (SLS 6.12.3)
 pub data Product : ℕ → List Term → ℤ → Type 0 where
   literal : {n : ℕ} → Product n [] (pos n)
   times : {n : ℕ} (before : List Term) (m : ℕ) {x : ℤ} → Product n before x
-      → Product n (before ++ term prim.Mul m ∷ []) (int_value int.Mul x (pos m))
+      → Product n (before ++ term operator.Mul m ∷ []) (int_value int.Mul x (pos m))
 
 -- a chain splits at its last `+` or `-`: what stands before it, and the product behind it (SLS 6.12.3)
 pub data Value : ℕ → List Term → ℤ → Type 0 where
   product : {n : ℕ} {rest : List Term} {x : ℤ} → Product n rest x → Value n rest x
-  additive : {n : ℕ} (before : List Term) (op : PrimOp) (m : ℕ) (after : List Term) (x y : ℤ)
+  additive : {n : ℕ} (before : List Term) (op : Operator) (m : ℕ) (after : List Term) (x y : ℤ)
       → IsAdditive op → Value n before x → Product m after y
       → Value n (before ++ term op m ∷ after) (int_value (int_op op) x y)
 

@@ -1,10 +1,10 @@
+use crate::operator::Operator;
 use sqlite_items::Items;
-use ty_prog::PrimOp;
 
 /// An operator and the literal behind it.
 #[derive(Clone, Copy, Debug)]
 pub struct Term {
-    pub op: PrimOp,
+    pub op: Operator,
     pub literal: u32,
 }
 

@@ -9,8 +9,8 @@ ghost use Rattle.sl_top.specs.Code.{operation_of, ChainCode, ProgramCode, waitin
 use crate::chain::{Chain, Term};
 use crate::code::Instruction;
 use crate::no_memory::NoMemory;
+use crate::operator::Operator;
 use std::alloc::Global;
-use ty_prog::PrimOp;
 
 /// The code that prints the value of each chain, in order, and returns.
 pub fn compile(alloc: Global, chains: &[Chain]) -> Result<Vec<Instruction>, NoMemory>
@@ -44,20 +44,20 @@ fn put_chain(code: &mut Vec<Instruction>, chain: &Chain) -> Result<(), NoMemory>
 // Appends the code of a term, and gives the operator that waits then.
 fn put_term(
     code: &mut Vec<Instruction>,
-    waiting: Option<PrimOp>,
+    waiting: Option<Operator>,
     term: Term,
-) -> Result<Option<PrimOp>, NoMemory>
+) -> Result<Option<Operator>, NoMemory>
     requires literal { term.literal < 2 ^ 31 }
     ensures emitted { OnOk result (code.new.items ≡ code.old.items ++ term_code term.op term.literal waiting) }
     ensures waits { IfOk result (λ next. next ≡ waiting_after term.op waiting) }
 {
     match term.op {
-        PrimOp::Mul => {
+        Operator::Mul => {
             put(code, push_of(term.literal))?;
             put(code, Instruction::Mul)?;
             Ok(waiting)
         }
-        PrimOp::Add | PrimOp::Sub => {
+        Operator::Add | Operator::Sub => {
             put_waiting(code, waiting)?;
             put(code, push_of(term.literal))?;
             Ok(Some(term.op))
@@ -66,7 +66,7 @@ fn put_term(
 }
 
 // Appends the instruction of the operator that waits, if there is one.
-fn put_waiting(code: &mut Vec<Instruction>, waiting: Option<PrimOp>) -> Result<(), NoMemory>
+fn put_waiting(code: &mut Vec<Instruction>, waiting: Option<Operator>) -> Result<(), NoMemory>
     ensures { OnOk result (code.new.items ≡ code.old.items ++ waiting_code waiting) }
 {
     match waiting {
@@ -75,13 +75,13 @@ fn put_waiting(code: &mut Vec<Instruction>, waiting: Option<PrimOp>) -> Result<(
     }
 }
 
-fn operation(op: PrimOp) -> Instruction
+fn operation(op: Operator) -> Instruction
     ensures { result ≡ operation_of op }
 {
     match op {
-        PrimOp::Add => Instruction::Add,
-        PrimOp::Sub => Instruction::Sub,
-        PrimOp::Mul => Instruction::Mul,
+        Operator::Add => Instruction::Add,
+        Operator::Sub => Instruction::Sub,
+        Operator::Mul => Instruction::Mul,
     }
 }
 

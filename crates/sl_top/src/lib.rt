@@ -13,6 +13,7 @@ mod machine;
 mod no_memory;
 mod number_text;
 mod operands;
+mod operator;
 mod reading;
 mod request;
 mod running;

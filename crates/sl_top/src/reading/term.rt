@@ -2,26 +2,26 @@ ghost use Rattle.std.specs.Prelude.{◌≡◌, MatchOption, MatchResult};
 ghost use Rattle.sl_top.specs.Reading.{SpellsOperator, SpellsTerm, SpellsTerms, SpellsChain, IsRead, NoneRead};
 
 use crate::chain::{Chain, Term};
+use crate::operator::Operator;
 use crate::reading::fault::ReadFault;
 use crate::reading::literal::literal;
 use crate::reading::text::behind;
 use sqlite_items::Items;
 use std::alloc::Global;
-use ty_prog::PrimOp;
 
 /// The operator at the front, with its spaces.
-fn operator(bytes: &[u8]) -> Option<(PrimOp, &[u8])>
+fn operator(bytes: &[u8]) -> Option<(Operator, &[u8])>
     ensures { MatchOption result (NoneRead SpellsOperator bytes.now)
         (λ r. IsRead SpellsOperator bytes.now r.0 r.1.now) }
 {
     if let Some(rest) = behind(bytes, b" + ") {
-        return Some((PrimOp::Add, rest));
+        return Some((Operator::Add, rest));
     }
     if let Some(rest) = behind(bytes, b" - ") {
-        return Some((PrimOp::Sub, rest));
+        return Some((Operator::Sub, rest));
     }
     let rest = behind(bytes, b" * ")?;
-    Some((PrimOp::Mul, rest))
+    Some((Operator::Mul, rest))
 }
 
 fn term(bytes: &[u8]) -> Option<(Term, &[u8])>

@@ -1,0 +1,12 @@
+//! Kinds of classes.
+
+/// What a class stands for (SLS 5.3 to 5.5).
+#[derive(Clone, Copy, Debug, PartialEq, Eq)]
+pub enum Kind {
+    Class,
+    Abstract,
+    Trait,
+    Object,
+    /// The static methods that a lowering makes of a trait's members.
+    Helper,
+}

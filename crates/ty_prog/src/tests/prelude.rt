@@ -1,0 +1,28 @@
+use crate::prelude;
+use crate::prelude_number::{
+    ARITHMETIC_EXCEPTION, LAZY_CYCLE, MATCH_ERROR, NO_CLASS_DEF_FOUND_ERROR, PRELUDE_LEN, THREAD,
+    THROWABLE, VIRTUAL_MACHINE_ERROR,
+};
+use std::test::Fail;
+
+#[test]
+fn names_and_numbers(rt: HostRuntime) -> Result<(), Fail> {
+    let classes = prelude(rt.alloc())?;
+    assert_eq!(rt; classes.len(), PRELUDE_LEN as usize);
+    for (number, name) in [
+        (THREAD, "Thread"),
+        (THROWABLE, "Throwable"),
+        (ARITHMETIC_EXCEPTION, "ArithmeticException"),
+        (MATCH_ERROR, "MatchError"),
+        (NO_CLASS_DEF_FOUND_ERROR, "NoClassDefFoundError"),
+        (VIRTUAL_MACHINE_ERROR, "VirtualMachineError"),
+        (LAZY_CYCLE, "LazyCycle"),
+    ] {
+        let Some(class) = classes.get(number as usize) else {
+            panic!(rt; "no class {number}")
+        };
+        assert_eq!(rt; class.name.as_str(), name);
+        assert_eq!(rt; class.linear.as_slice().first(), Some(&number));
+    }
+    Ok(())
+}
