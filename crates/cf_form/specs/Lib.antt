@@ -1,0 +1,5 @@
+pub mod Opcodes
+pub mod Instructions
+pub mod Pool
+pub mod Outline
+pub mod ClassFiles
