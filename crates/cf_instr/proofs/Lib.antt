@@ -1,0 +1,10 @@
+pub mod Filling
+pub mod Table
+pub mod Beginning
+pub mod Sizes
+pub mod Offsets
+pub mod Parsing
+pub mod Faulty
+pub mod Codes
+pub mod Excluding
+pub mod Spelling

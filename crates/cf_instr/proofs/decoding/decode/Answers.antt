@@ -1,0 +1,5 @@
+use Rattle.cf_instr.proofs.Excluding.{only}
+use Rattle.cf_instr.proofs.decoding.decode.Goals as goal
+
+pub returns-clause-only : goal.returns-clause-only
+returns-clause-only c = λ code h e. only c.args.bytes.now c.whole.result code c.whole.ensures.found c.whole.ensures.faults h e

@@ -1,0 +1,47 @@
+//! Bytes to a method's code.
+
+ghost use Rattle.std.specs.Prelude.{◌≡◌, ◌⊎◌, ◌<◌, ◌^◌, List, length, IfOk, IfErr, Ok, Err};
+ghost use Rattle.cf_form.specs.Instructions.{IsCode, code_bytes};
+ghost use Rattle.cf_instr.specs.Faults.{IsFault};
+
+use crate::code_fault::{CodeFault, CodeKind};
+use crate::raws::raws_of;
+use crate::settling::settled;
+use cf_form::Instr;
+use sqlite_items::Items;
+use std::alloc::Global;
+
+/// The code that the bytes are (JVMS 4.7.3), the offsets of its jumps as numbers of instructions. The fault tells the first
+/// byte of the first instruction that none can be; where all are instructions, of the first that jumps to no instruction.
+pub fn decode(alloc: Global, bytes: &[u8]) -> Result<Items<Instr>, CodeFault>
+    requires { length bytes.now < 2 ^ 31 }
+    // What is read is spelled so.
+    ensures found { IfOk result (λ code. IsCode code × (bytes.now ≡ code_bytes code)) }
+    // What is spelled so is read, unless memory runs out.
+    ensures only { (code : List Instr) → IsCode code → bytes.now ≡ code_bytes code → (result ≡ Ok code) ⊎ (result ≡ Err (record { at = 0; kind = CodeKind.Memory })) }
+    // Which fault it is.
+    ensures faults { IfErr result (IsFault bytes.now) }
+{
+    whole(alloc, bytes)
+}
+
+// The code or the fault, each as the bytes have it.
+fn whole(alloc: Global, bytes: &[u8]) -> Result<Items<Instr>, CodeFault>
+    requires { length bytes.now < 2 ^ 31 }
+    ensures found { IfOk result (λ code. IsCode code × (bytes.now ≡ code_bytes code)) }
+    ensures faults { IfErr result (IsFault bytes.now) }
+{
+    if bytes.is_empty() {
+        return Err(CodeFault {
+            at: 0,
+            kind: CodeKind::Cut,
+        });
+    }
+    match raws_of(alloc, bytes) {
+        Ok((raws, starts)) => match settled(alloc, &raws, &starts) {
+            Ok(code) => Ok(Items::from_vec(code)),
+            Err(fault) => Err(fault),
+        },
+        Err(fault) => Err(fault),
+    }
+}
