@@ -1,0 +1,7 @@
+pub mod Appends
+pub mod Bare
+mod Dropped
+pub mod CodeNames
+pub mod Examples
+pub mod Places
+pub mod Spellings
