@@ -1,0 +1,28 @@
+use Rattle.std.proofs.Common.{◌≡◌, ◌++◌, ◌∷◌, [], map}
+use Rattle.std.proofs.lemmas.Result.{err_from_is_err_and}
+use Rattle.std.proofs.lemmas.List.{map_push}
+use Rattle.cf_read.specs.Reading.{members_at, field_at, field_key}
+use Rattle.cf_read.specs.Views.{key_at}
+use Rattle.cf_read.proofs.InTurn.{members_go, members_end, members_done}
+use Rattle.cf_read.proofs.members.read_all_fields.Goals as goal
+
+pub returns-in_err-field : goal.returns-in_err-field
+returns-in_err-field c =
+    let p = err_from_is_err_and c.from_residual-in_err-field.result c.from_residual-in_err-field.ensures.1 in
+    let pool = c.args.pool.now in
+    rw (p.1, p.2) (members_end (field_at pool) (field_key pool) c.in_err-field.field-0.0 c.loop.fields.items c.args.count c.loop.counter (map (key_at pool) c.loop.members.keys.items) c.loop.rest.now (members_at (field_at pool) (field_key pool) c.args.count [] c.args.bytes.now) c.loop-test.true c.in_err-field.ensures c.loop.invariant.read)
+
+pub loop-preserved : goal.loop-preserved
+loop-preserved c =
+    let pool = c.args.pool.now in
+    let field = c.in_ok-field.field in
+    let keys : map (key_at pool) c.keep.new.members.keys.items ≡ map (key_at pool) c.loop.members.keys.items ++ field_key pool field ∷ [] = rw c.in_ok-keep.ensures.keys (map_push (key_at pool) c.loop.members.keys.items (field.name, field.descriptor)) in
+    record {
+      read = rw (keys, c.in_ok-push.ensures.items) (members_go (field_at pool) (field_key pool) c.loop.fields.items c.args.count c.loop.counter (map (key_at pool) c.loop.members.keys.items) c.loop.rest.now c.in_ok-field.after.now field (members_at (field_at pool) (field_key pool) c.args.count [] c.args.bytes.now) c.loop-test.true c.in_ok-field.ensures c.loop.invariant.read);
+      kept = c.in_ok-keep.ensures.kept pool c.loop.invariant.kept;
+    }
+
+pub returns : goal.returns
+returns c =
+    let pool = c.args.pool.now in
+    members_done (field_at pool) (field_key pool) c.loop.fields.items c.args.count c.loop.counter (map (key_at pool) c.loop.members.keys.items) c.loop.rest.now (members_at (field_at pool) (field_key pool) c.args.count [] c.args.bytes.now) c.loop-test.false c.loop.invariant.read

@@ -1,0 +1,13 @@
+use Rattle.std.proofs.Common.{◌≡◌, ◌-◌, [], map}
+use Rattle.cf_read.specs.Reading.{members_at, method_at, method_key}
+use Rattle.cf_read.specs.Seen.{AreKept}
+use Rattle.cf_read.specs.Views.{key_at, method_of}
+use Rattle.cf_read.proofs.Loops.{with_front}
+use Rattle.cf_read.proofs.methods.read_all_methods.Given as goal
+
+abbrev pub invariant-loop : goal.invariant-loop
+invariant-loop l = record {
+  read : with_front (map method_of l.methods.items) (members_at (method_at l.pool) (method_key l.pool) (l.count - l.counter) (map (key_at l.pool) l.members.keys.items) l.rest)
+      ≡ members_at (method_at l.pool) (method_key l.pool) l.count [] l.bytes;
+  kept : AreKept l.pool l.members;
+}
