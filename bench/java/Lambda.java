@@ -1,0 +1,6 @@
+/** A lambda, whose constants the format lacks. */
+public class Lambda {
+    Runnable hello() {
+        return () -> System.out.println("hello");
+    }
+}
