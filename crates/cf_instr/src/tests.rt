@@ -175,9 +175,9 @@ fn comes_back(alloc: Global, bytes: &[u8]) -> Result<bool, NoMemory> {
 fn edges(shape: Shape) -> &'static [&'static [u8]] {
     match shape {
         Shape::Plain => &[b""],
-        Shape::S1 => &[b"\x00", b"\x7F", b"\x80", b"\xFF"],
+        Shape::Signed1 => &[b"\x00", b"\x7F", b"\x80", b"\xFF"],
         Shape::Pool1 | Shape::Local => &[b"\x00", b"\xFF"],
-        Shape::S2 | Shape::Pool2 => &[b"\x00\x00", b"\x7F\xFF", b"\x80\x00", b"\xFF\xFF"],
+        Shape::Signed2 | Shape::Pool2 => &[b"\x00\x00", b"\x7F\xFF", b"\x80\x00", b"\xFF\xFF"],
         Shape::Step => &[b"\x00\x7F", b"\xFF\x80"],
         Shape::Face => &[b"\x00\x00\x00\x00", b"\xFF\xFF\xFF\x00"],
         Shape::Jump2 | Shape::Jump4 | Shape::Wide => &[],
