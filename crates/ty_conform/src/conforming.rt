@@ -2,7 +2,7 @@
 
 ghost use Rattle.std.specs.Prelude.{◌≡◌};
 ghost use Rattle.ty_linear.specs.Linear.{is_in};
-ghost use Rattle.ty_good.specs.Conforms.{linear_of, conforms, class_conforms};
+ghost use Rattle.ty_conform.specs.Conforms.{linear_of, conforms, class_conforms};
 
 use sqlite_items::at;
 use ty_prog::{Class, Program, Ty};
@@ -40,8 +40,8 @@ fn class_conforms(classes: &[Class], lower: u32, upper: Ty) -> bool
     }
 }
 
-// Whether the linearisation of the first class has the second.
-pub(crate) fn inherits(classes: &[Class], lower: u32, upper: u32) -> bool
+/// Whether the linearisation that the first class carries has the second (SLS 5.1.2); that of no class has none.
+pub fn inherits(classes: &[Class], lower: u32, upper: u32) -> bool
     ensures { result ≡ is_in (linear_of classes.now lower) upper }
 {
     match at(classes, lower as usize) {

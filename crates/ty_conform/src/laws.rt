@@ -6,9 +6,9 @@ ghost use Rattle.ty_prog.specs.declared.program.Program.{Program};
 ghost use Rattle.ty_prog.specs.declared.ty.Ty.{Ty};
 ghost use Rattle.ty_prog.specs.declared.ty.Ty.TheVariants as ty;
 ghost use Rattle.ty_prog.specs.Find.{find};
-ghost use Rattle.ty_good.specs.Conforms.{conforms, AreClosed, AreOneWay};
-ghost use Rattle.ty_good.specs.Complete.{HasLinearisations};
-ghost use Rattle.ty_good.specs.Join.{join, serves_as};
+ghost use Rattle.ty_conform.specs.Conforms.{conforms, AreClosed, AreOneWay};
+ghost use Rattle.ty_conform.specs.Carried.{HasLinearisations};
+ghost use Rattle.ty_conform.specs.Join.{join, serves_as};
 
 use ty_linear::linearisations;
 

@@ -7,8 +7,8 @@ use Rattle.std.proofs.lemmas.List.{length-map}
 use Rattle.ty_prog.specs.declared.class.Class.{Class}
 use Rattle.ty_prog.specs.declared.program.Program.{Program}
 use Rattle.ty_linear.specs.Linear.{is_in, IsAncestor, parent, beyond, IsLinearisation}
-use Rattle.ty_good.specs.Conforms.{linear_of, AreClosed, AreOneWay}
-use Rattle.ty_good.specs.Complete.{HasLinearisations}
+use Rattle.ty_conform.specs.Conforms.{linear_of, AreClosed, AreOneWay}
+use Rattle.ty_conform.specs.Carried.{HasLinearisations}
 
 linear_at : (classes : List Class) (class : ℕ) → get_or (map (λ c. c.linear) classes) class [] ≡ linear_of classes class
 linear_at [] class = refl

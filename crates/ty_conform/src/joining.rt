@@ -1,7 +1,7 @@
 //! The type that two branches have together.
 
 ghost use Rattle.std.specs.Prelude.{◌≡◌};
-ghost use Rattle.ty_good.specs.Join.{join, wider, shared};
+ghost use Rattle.ty_conform.specs.Join.{join, wider, shared};
 
 use crate::conforming::conforms;
 use ty_prog::{Program, Ty};

@@ -7,7 +7,7 @@ use Rattle.ty_prog.specs.declared.class.Class.{Class}
 use Rattle.ty_prog.specs.declared.program.Program.{Program}
 use Rattle.ty_prog.specs.Find.{own, first_in, find}
 use Rattle.ty_linear.specs.Linear.{is_in}
-use Rattle.ty_good.specs.Conforms.{linear_of, AreClosed}
+use Rattle.ty_conform.specs.Conforms.{linear_of, AreClosed}
 
 -- an option is None, or Some of a value
 one_of : {A : Type 0} (o : Option A) → (o ≡ None) ⊎ ((x : A) × (o ≡ Some x))

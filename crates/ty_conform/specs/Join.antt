@@ -3,7 +3,7 @@ use Rattle.std.specs.Prelude.{Bool, true, ◌&&◌, if◌then◌else◌, List}
 use Rattle.ty_prog.specs.declared.class.Class.{Class}
 use Rattle.ty_prog.specs.declared.ty.Ty.{Ty}
 use Rattle.ty_prog.specs.declared.ty.Ty.TheVariants as ty
-use Rattle.ty_good.specs.Conforms.{conforms}
+use Rattle.ty_conform.specs.Conforms.{conforms}
 
 -- AnyRef where both conform to it, else Any
 abbrev pub shared : List Class → Ty → Ty → Ty

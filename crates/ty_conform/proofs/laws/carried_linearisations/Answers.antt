@@ -1,5 +1,5 @@
-use Rattle.ty_good.proofs.Carried.{carried_closed, carried_one_way}
-use Rattle.ty_good.proofs.laws.carried_linearisations.Goals as goal
+use Rattle.ty_conform.proofs.CarriedLists.{carried_closed, carried_one_way}
+use Rattle.ty_conform.proofs.laws.carried_linearisations.Goals as goal
 
 pub returns : goal.returns
 returns c = record {

@@ -1,6 +1,6 @@
--- Which type conforms to which (SLS 3.5.2): a value of the first may stand, as it is, wherever one of the second is
--- wanted. Int doesn't conform to Long: it is widened, which makes another value (SLS 6.26.1). Neither does a type
--- conform to Unit because its value may be dropped there, nor Array to AnyRef, since it is the type of a parameter alone.
+-- Which type conforms to which (SLS 3.5.2). Each conforms to Any, also those whose values are boxed there (SLS 12.2). Int
+-- doesn't conform to Long: it is widened, which makes another value (SLS 6.26.1). Neither does a type conform to Unit
+-- because its value may be dropped there, nor Array to AnyRef, since it is the type of a parameter alone.
 use Rattle.std.specs.Prelude.{◌≡◌, ℕ, Bool, true, false, ◌==◌, ◌||◌, IsTrue, List, [], slice_get, option_map}
 use Rattle.std.specs.Option.{unwrap_or}
 use Rattle.ty_prog.specs.declared.class.Class.{Class}

@@ -1,0 +1,2 @@
+pub mod CarriedLists
+pub mod Inherited

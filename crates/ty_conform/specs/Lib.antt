@@ -1,0 +1,4 @@
+pub mod Carried
+pub mod Conforms
+pub mod Join
+pub mod Kinds

@@ -1,5 +1,0 @@
-use Rattle.ty_good.proofs.Inherited.{found_below}
-use Rattle.ty_good.proofs.laws.inherited_members.Goals as goal
-
-pub returns : goal.returns
-returns c = found_below

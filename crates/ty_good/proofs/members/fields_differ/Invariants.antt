@@ -1,9 +1,0 @@
-use Rattle.std.proofs.Common.{◌≡◌, length}
-use Rattle.ty_good.specs.Complete.{differ}
-use Rattle.ty_good.proofs.members.fields_differ.Given as goal
-
-abbrev pub invariant-loop-first : goal.invariant-loop-first
-invariant-loop-first l = differ (λ m. m.name) l.rest ≡ differ (λ m. m.name) l.fields
-
-abbrev pub decreases-loop-first : goal.decreases-loop-first
-decreases-loop-first l = length l.rest
