@@ -1,0 +1,4 @@
+pub mod Parts
+pub mod SetFirst
+pub mod Settled
+pub mod Uses

@@ -1,0 +1,19 @@
+-- The parts of `LocalsAreSetFirst`, each as one fact, into which searches don't look.
+use Rattle.std.specs.Prelude.{length}
+use Rattle.ty_prog.specs.declared.class.Class.{Class}
+use Rattle.ty_prog.specs.declared.cell.Cell.{Cell}
+use Rattle.ty_prog.specs.declared.method.Method.{Method}
+use Rattle.ty_prog.specs.Tree.{ConstructorTree}
+use Rattle.ty_flow.specs.SetFirst.{AreSetFirst, CellIsSetFirst, MethodIsSetFirst, ClassIsSetFirst}
+
+unfoldable pub ConstructorSettled : Class → Type 0
+ConstructorSettled class = AreSetFirst (length class.params) class.locals (ConstructorTree class)
+
+unfoldable pub CellSettled : Cell → Type 0
+CellSettled cell = CellIsSetFirst cell
+
+unfoldable pub MethodSettled : Method → Type 0
+MethodSettled method = MethodIsSetFirst method
+
+unfoldable pub ClassSettled : Class → Type 0
+ClassSettled class = ClassIsSetFirst class

@@ -1,0 +1,14 @@
+//! Whether each local is set, on every way, before it is read.
+#![tactic(auto)]
+
+mod joining;
+mod laws;
+mod passage;
+pub mod passing;
+mod set_first;
+#[cfg(test)]
+mod tests;
+
+pub use laws::ways;
+pub use passage::Passage;
+pub use set_first::{are_set_first, locals_are_set_first};
