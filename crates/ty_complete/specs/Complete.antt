@@ -1,0 +1,222 @@
+-- What makes a program complete, part by part, on what SLS 4, 5 and 6.10 ask and what class files can hold (JVMS 4).
+use Rattle.std.specs.Prelude.{◌≡◌, ◌≢◌, ◌⊎◌, ℕ, ◌≤◌, Bool, true, false, IsTrue, IsSome, not, ◌&&◌, ◌||◌, List, [], ◌∷◌, ◌++◌, Option, Some, None, length, take, drop, codes, nat_eq, nat_le, slice_get, option_map, option_and_then, if◌then◌else◌}
+use Rattle.std.specs.List.{All, AllPairs, list_any, list_all, Contains}
+use Rattle.std.specs.Option.{unwrap_or}
+use Rattle.std.specs.Str.{bytes_eq}
+use Rattle.ty_prog.specs.declared.class.Class.{Class}
+use Rattle.ty_prog.specs.declared.method.Method.{Method}
+use Rattle.ty_prog.specs.declared.kind.Kind.{Kind}
+use Rattle.ty_prog.specs.declared.kind.Kind.TheVariants as kind
+use Rattle.ty_prog.specs.declared.ty.Ty.{Ty}
+use Rattle.ty_prog.specs.declared.ty.Ty.TheVariants as ty
+use Rattle.ty_prog.specs.declared.program.Program.{Program}
+use Rattle.ty_prog.specs.Find.{find, super_find}
+use Rattle.ty_prog.specs.Prelude.{prelude}
+use Rattle.ty_prog.specs.declared.expr.Expr.{out-Expr}
+use Rattle.ty_prog.specs.declared.catch.Catch.TheOpen.{Expr-F}
+use Rattle.ty_prog.specs.Tree.{Tree, ExprTree, ExprLevel}
+use Rattle.ty_linear.specs.Linear.{is_in}
+use Rattle.ty_walk.specs.Everywhere.{StandsIn, AllNodes}
+use Rattle.ty_conform.specs.Conforms.{linear_of}
+use Rattle.ty_conform.specs.Carried.{HasLinearisations}
+use Rattle.ty_conform.specs.Kinds.{is_trait, is_object, superclass, superclass_of, reaches}
+use Rattle.ty_flow.specs.SetFirst.{LocalsAreSetFirst}
+
+-- the first classes are those of the prelude
+abbrev pub BeginsWithPrelude : Program → Type 0
+BeginsWithPrelude p = take (length prelude) p.classes ≡ prelude
+
+-- the classes behind the prelude
+abbrev pub own_classes : Program → List Class
+own_classes p = drop (length prelude) p.classes
+
+-- the class files that a class gives by its kind and name: a trait an interface and one for its helper's methods, an
+-- object one with `$`. Those of the prelude's classes stand in folders, so no class of the program's own gives one.
+abbrev pub files : Kind → List ℕ → List (List ℕ)
+files kind.Class name = name ∷ []
+files kind.Abstract name = name ∷ []
+files kind.Trait name = name ∷ (name ++ codes "$class") ∷ []
+files kind.Object name = (name ++ codes "$") ∷ []
+files kind.Helper name = (name ++ codes "$class") ∷ []
+
+-- a trait and its helper, which has the trait's name
+abbrev pub IsPair : Class → Class → Type 0
+IsPair trait helper = (trait.kind ≡ kind.Trait) × (helper.kind ≡ kind.Helper) × (trait.name ≡ helper.name)
+
+-- two classes give no file of one name, or are a trait and its helper
+abbrev pub AreApart : Class → Class → Type 0
+AreApart one other =
+    IsPair one other ⊎ IsPair other one
+    ⊎ All (λ file. All (λ second. file ≢ second) (files other.kind other.name)) (files one.kind one.name)
+
+-- the classes of the program's own give files that differ, and none named `Main`
+pub record FilesDiffer (p : Program) : Type 0 where
+  pub apart : AllPairs AreApart (own_classes p)
+  pub not_main : All (λ class. All (λ file. file ≢ codes "Main") (files class.kind class.name)) (own_classes p)
+
+-- a character that a name in a class file may have (JVMS 4.2.2), and no parenthesis
+abbrev pub is_plain : ℕ → Bool
+is_plain character = not (list_any (nat_eq character) (codes ".;[/<>()"))
+
+-- a name of 1 to so many characters
+pub record IsName (most : ℕ) (name : List ℕ) : Type 0 where
+  pub some : 1 ≤ length name
+  pub few : length name ≤ most
+  pub plain : All (λ character. IsTrue (is_plain character)) name
+
+-- the names of a class and of its members fit; no field has the name of the field that holds an object
+pub record HasNames (class : Class) : Type 0 where
+  pub own : IsName 86 class.name
+  pub fields : All (λ f. IsName 200 f.name) class.fields
+  pub cells : All (λ c. IsName 200 c.name) class.cells
+  pub methods : All (λ m. IsName 200 m.name) class.methods
+  pub not_module : All (λ f. f.name ≢ codes "MODULE$") class.fields
+
+-- the names outside the prelude fit
+abbrev pub NamesFit : Program → Type 0
+NamesFit p = All HasNames (own_classes p)
+
+abbrev pub level_text_fits : ExprLevel → Bool
+level_text_fits (Expr-F.Text text) = nat_le (length text) 10000
+level_text_fits other = true
+
+-- a node that is a text has at most 10,000 characters, whose bytes a class file's constant holds (JVMS 4.4.7)
+abbrev pub text_fits : Tree → Bool
+text_fits (ExprTree e) = level_text_fits (out-Expr e)
+text_fits other = true
+
+abbrev pub TextsFit : Program → Type 0
+TextsFit p = AllNodes (λ node. IsTrue (text_fits node)) p
+
+-- a constructor and a method have at most 121 parameters (the places of JVMS 4.3.3 hold them, each a Long)
+abbrev pub HasFewParameters : Class → Type 0
+HasFewParameters class = (length class.params ≤ 121) × All (λ m. length m.params ≤ 121) class.methods
+
+abbrev pub ParametersFit : Program → Type 0
+ParametersFit p = All HasFewParameters p.classes
+
+-- no two of a list have the same name
+abbrev pub differ : {A : Type 0} → (A → List ℕ) → List A → Bool
+differ name [] = true
+differ name (first ∷ rest) = not (list_any (λ other. bytes_eq (name first) (name other)) rest) && differ name rest
+
+-- no two fields, no two cells and no two methods of a class have one name
+abbrev pub members_differ : Class → Bool
+members_differ class = differ (λ f. f.name) class.fields && differ (λ c. c.name) class.cells && differ (λ m. m.name) class.methods
+
+abbrev pub MembersDiffer : Program → Type 0
+MembersDiffer p = All (λ class. IsTrue (members_differ class)) p.classes
+
+-- whether the superclass of a trait, if it has one, is in the linearisation of another superclass
+abbrev pub superclass_fits : List Class → Option ℕ → Option ℕ → Bool
+superclass_fits classes super None = true
+superclass_fits classes super (Some wanted) = reaches classes super wanted
+
+-- a trait in the linearisation of a class with this superclass fits it (SLS 5.1)
+abbrev pub fits_below : List Class → Option ℕ → ℕ → Bool
+fits_below classes super class = not (is_trait classes class) || superclass_fits classes super (superclass_of classes class)
+
+-- a parent after the first is a trait; each trait of the linearisation fits the superclass
+abbrev pub parents_fit : List Class → Class → Bool
+parents_fit classes class =
+    list_all (is_trait classes) (drop 1 class.parents)
+    && list_all (fits_below classes (superclass classes class.parents)) class.linear
+
+abbrev pub ParentsFit : Program → Type 0
+ParentsFit p = All (λ class. IsTrue (parents_fit p.classes class)) p.classes
+
+-- a class that an object may be made of: no trait and no abstract class
+abbrev pub is_made_kind : Kind → Bool
+is_made_kind kind.Trait = false
+is_made_kind kind.Abstract = false
+is_made_kind other = true
+
+abbrev pub level_made : ExprLevel → Option ℕ
+level_made (Expr-F.New class args) = Some class
+level_made other = None
+
+-- the class that a node makes an object of
+abbrev pub made : Tree → Option ℕ
+made (ExprTree e) = level_made (out-Expr e)
+made other = None
+
+-- a node that makes an object names no trait and no abstract class (SLS 5.1, 6.10)
+abbrev pub made_fits : List Class → Tree → Bool
+made_fits classes node =
+    unwrap_or (option_map (λ c. is_made_kind c.kind) (option_and_then (slice_get classes) (made node))) true
+
+abbrev pub NewIsConcrete : Program → Type 0
+NewIsConcrete p = AllNodes (λ node. IsTrue (made_fits p.classes node)) p
+
+-- no parameter, or one of type Array
+abbrev pub is_entry_list : List Ty → Bool
+is_entry_list [] = true
+is_entry_list (ty.Array ∷ []) = true
+is_entry_list other = false
+
+abbrev pub is_unit : Ty → Bool
+is_unit ty.Unit = true
+is_unit other = false
+
+-- whether the method at a class's number and its own may be the first to run
+abbrev pub is_entry : List Class → ℕ × ℕ → Bool
+is_entry classes found =
+    unwrap_or (option_map (λ m. is_entry_list m.params && is_unit m.result)
+    (option_and_then (λ c. slice_get c.methods found.1) (slice_get classes found.0))) false
+
+-- whether the object that `main` names has a method of this name to begin with
+abbrev pub begins_with : Program → List ℕ → Bool
+begins_with p name = is_object p.classes p.main && unwrap_or (option_map (is_entry p.classes) (find p p.main name)) false
+
+-- `main` is an object for which `find` gives a `main` of no parameter or of one of type Array, and of result Unit
+abbrev pub HasMain : Program → Type 0
+HasMain p = IsTrue (begins_with p (codes "main"))
+
+-- a class of whose objects there may be one: an object, or one that is made somewhere
+pub data HasObjects (p : Program) (class : ℕ) : Type 0 where
+  object : IsTrue (is_object p.classes class) → HasObjects p class
+  created : (maker : Class) (node : Tree) → Contains p.classes maker → StandsIn maker node → made node ≡ Some class → HasObjects p class
+
+-- a class of the linearisation of another
+pub record HasAbove (p : Program) (class : ℕ) (above : Class) : Type 0 where
+  pub number : ℕ
+  pub has : IsTrue (is_in (linear_of p.classes class) number)
+  pub is : slice_get p.classes number ≡ Some above
+
+abbrev pub level_super : ExprLevel → Option (ℕ × List ℕ)
+level_super (Expr-F.SuperCall after name args) = Some (after, name)
+level_super other = None
+
+-- the template and the name of a call by `super`
+abbrev pub super_of : Tree → Option (ℕ × List ℕ)
+super_of (ExprTree e) = level_super (out-Expr e)
+super_of other = None
+
+-- in a class of which there are objects, each name of a method that isn't static is found, methods of one name agree in
+-- parameters and result, and what `super` calls is found (SLS 5.1.3, 5.1.4, 6.5)
+pub record FindsIts (p : Program) (class : ℕ) : Type 0 where
+  pub found : (above : Class) (method : Method) → HasAbove p class above → Contains above.methods method
+      → method.is_static ≡ false → IsSome (find p class method.name)
+  pub agree : (one two : Class) (first second : Method) → HasAbove p class one → HasAbove p class two
+      → Contains one.methods first → Contains two.methods second → first.is_static ≡ false → second.is_static ≡ false
+      → first.name ≡ second.name → (first.params ≡ second.params) × (first.result ≡ second.result)
+  pub super : (above : Class) (node : Tree) (after : ℕ) (name : List ℕ) → HasAbove p class above → StandsIn above node
+      → super_of node ≡ Some (after, name) → IsSome (super_find p class after name)
+
+abbrev pub FindsAll : Program → Type 0
+FindsAll p = (class : ℕ) → HasObjects p class → FindsIts p class
+
+-- the parts of a complete program; that each local has one type stands beside them, in `GoodWith`
+pub record Complete (p : Program) : Type 0 where
+  pub begins : BeginsWithPrelude p
+  pub files : FilesDiffer p
+  pub names : NamesFit p
+  pub texts : TextsFit p
+  pub parameters : ParametersFit p
+  pub members : MembersDiffer p
+  pub linearisations : HasLinearisations p
+  pub parents : ParentsFit p
+  pub concrete : NewIsConcrete p
+  pub found : FindsAll p
+  pub set : LocalsAreSetFirst p
+  pub main : HasMain p

@@ -1,0 +1,82 @@
+//! Whether methods of one name agree. Plain, for tests on small programs: each method is compared with all.
+
+ghost use Rattle.std.specs.Prelude.{◌≡◌, ◌↔◌, IsTrue};
+ghost use Rattle.std.specs.List.{All};
+ghost use Rattle.ty_complete.specs.Finding.{HoldsOf, MethodsAgree, ListsAgree, AgreesWith};
+
+use sqlite_items::at;
+use ty_prog::{Class, Method, Ty};
+
+/// Whether any two methods of one name that aren't static, of any two classes of a list, agree in parameters and
+/// result.
+pub(crate) fn all_agree(classes: &[Class], linear: &[u32]) -> bool
+    ensures { IsTrue result ↔ All (HoldsOf classes.now (AgreesWith classes.now linear.now)) linear.now }
+{
+    linear
+        .iter()
+        .all(|number| number_agrees(classes, linear, *number))
+}
+
+fn number_agrees(classes: &[Class], linear: &[u32], number: u32) -> bool
+    ensures { IsTrue result ↔ HoldsOf classes.now (AgreesWith classes.now linear.now) number }
+{
+    match at(classes, number as usize) {
+        Some(class) => agrees_with(classes, linear, class),
+        None => true,
+    }
+}
+
+fn agrees_with(classes: &[Class], linear: &[u32], class: &Class) -> bool
+    ensures { IsTrue result ↔ AgreesWith classes.now linear.now class.now }
+{
+    let methods = class.methods.as_slice();
+    linear
+        .iter()
+        .all(|number| agrees_with_number(classes, *number, methods))
+}
+
+fn agrees_with_number(classes: &[Class], number: u32, methods: &[Method]) -> bool
+    ensures { IsTrue result ↔ HoldsOf classes.now (λ other. ListsAgree methods.now other.methods) number }
+{
+    match at(classes, number as usize) {
+        Some(class) => lists_agree(methods, class.methods.as_slice()),
+        None => true,
+    }
+}
+
+fn lists_agree(ones: &[Method], others: &[Method]) -> bool
+    ensures { IsTrue result ↔ ListsAgree ones.now others.now }
+{
+    ones.iter().all(|one| method_agrees(one, others))
+}
+
+fn method_agrees(one: &Method, others: &[Method]) -> bool
+    ensures { IsTrue result ↔ All (MethodsAgree one.now) others.now }
+{
+    others.iter().all(|two| methods_agree(one, two))
+}
+
+fn methods_agree(one: &Method, two: &Method) -> bool
+    ensures { IsTrue result ↔ MethodsAgree one.now two.now }
+{
+    one.is_static || two.is_static || one.name != two.name || same_types(one, two)
+}
+
+// Whether two methods have the same parameters and result.
+fn same_types(one: &Method, two: &Method) -> bool
+    ensures { IsTrue result ↔ (one.now.params ≡ two.now.params) × (one.now.result ≡ two.now.result) }
+{
+    same_list(one.params.as_slice(), two.params.as_slice()) && same_type(one.result, two.result)
+}
+
+fn same_list(ones: &[Ty], others: &[Ty]) -> bool
+    ensures { IsTrue result ↔ (ones.now ≡ others.now) }
+{
+    ones == others
+}
+
+fn same_type(one: Ty, other: Ty) -> bool
+    ensures { IsTrue result ↔ (one ≡ other) }
+{
+    one == other
+}

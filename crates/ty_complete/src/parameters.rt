@@ -1,0 +1,26 @@
+//! Whether parameters are few enough. Plain, for tests on small programs.
+
+ghost use Rattle.std.specs.Prelude.{◌↔◌, ◌≤◌, IsTrue, length};
+ghost use Rattle.std.specs.List.{All};
+ghost use Rattle.ty_complete.specs.Complete.{HasFewParameters, ParametersFit};
+
+use ty_prog::{Class, Method, Program};
+
+/// Whether each class and each method has at most 121 parameters.
+pub fn parameters_fit(p: &Program) -> bool
+    ensures { IsTrue result ↔ ParametersFit p.now }
+{
+    p.classes.as_slice().iter().all(has_few)
+}
+
+fn has_few(class: &Class) -> bool
+    ensures { IsTrue result ↔ HasFewParameters class.now }
+{
+    class.params.len() <= 121 && methods_have_few(class.methods.as_slice())
+}
+
+fn methods_have_few(methods: &[Method]) -> bool
+    ensures { IsTrue result ↔ All (λ m. length m.params ≤ 121) methods.now }
+{
+    methods.iter().all(|method| method.params.len() <= 121)
+}

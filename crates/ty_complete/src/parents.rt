@@ -1,0 +1,69 @@
+//! Whether the parents of each class fit each other. Plain, for tests on small programs.
+
+ghost use Rattle.std.specs.Prelude.{◌≡◌, ◌↔◌, IsTrue, drop};
+ghost use Rattle.std.specs.List.{list_all};
+ghost use Rattle.ty_complete.specs.Complete.{superclass_fits, fits_below, parents_fit, ParentsFit};
+ghost use Rattle.ty_conform.specs.Kinds.{is_trait, superclass, superclass_of, reaches};
+
+use ty_conform::{is_trait, reaches, superclass, superclass_of};
+use ty_prog::{Class, Program};
+
+/// Whether each parent after the first is a trait, and the superclass of each trait is in the linearisation of the
+/// superclass of each class that has the trait (SLS 5.1).
+pub fn parents_fit(p: &Program) -> bool
+    ensures { IsTrue result ↔ ParentsFit p.now }
+{
+    let classes = p.classes.as_slice();
+    classes.iter().all(|class| fit(classes, class))
+}
+
+fn fit(classes: &[Class], class: &Class) -> bool
+    ensures { result ≡ parents_fit classes.now class.now }
+{
+    let parents = class.parents.as_slice();
+    are_traits(classes, behind_first(parents))
+        && fit_below(
+            classes,
+            superclass(classes, parents),
+            class.linear.as_slice(),
+        )
+}
+
+fn behind_first(parents: &[u32]) -> &[u32]
+    ensures { result.now ≡ drop 1 parents.now }
+{
+    match parents.split_first() {
+        Some((_, rest)) => rest,
+        None => parents,
+    }
+}
+
+fn are_traits(classes: &[Class], list: &[u32]) -> bool
+    ensures { result ≡ list_all (is_trait classes.now) list.now }
+{
+    list.iter().all(|class| is_trait(classes, *class))
+}
+
+// Whether the traits of a linearisation fit below a superclass.
+fn fit_below(classes: &[Class], above: Option<u32>, linear: &[u32]) -> bool
+    ensures { result ≡ list_all (fits_below classes.now above) linear.now }
+{
+    linear
+        .iter()
+        .all(|class| fits_below(classes, above, *class))
+}
+
+fn fits_below(classes: &[Class], above: Option<u32>, class: u32) -> bool
+    ensures { result ≡ fits_below classes.now above class }
+{
+    !is_trait(classes, class) || superclass_fits(classes, above, superclass_of(classes, class))
+}
+
+fn superclass_fits(classes: &[Class], above: Option<u32>, wanted: Option<u32>) -> bool
+    ensures { result ≡ superclass_fits classes.now above wanted }
+{
+    match wanted {
+        Some(wanted) => reaches(classes, above, wanted),
+        None => true,
+    }
+}
