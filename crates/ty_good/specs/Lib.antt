@@ -1,3 +1,3 @@
-pub mod Complete
-pub mod Conforms
-pub mod Join
+pub mod Forms
+pub mod Good
+pub mod Numbers

@@ -11,3 +11,21 @@ impl From<AllocError> for NoMemory {
         NoMemory
     }
 }
+
+impl From<ty_walk::NoMemory> for NoMemory {
+    fn from(_error: ty_walk::NoMemory) -> NoMemory {
+        NoMemory
+    }
+}
+
+impl From<ty_typed::NoMemory> for NoMemory {
+    fn from(_error: ty_typed::NoMemory) -> NoMemory {
+        NoMemory
+    }
+}
+
+impl From<ty_complete::NoMemory> for NoMemory {
+    fn from(_error: ty_complete::NoMemory) -> NoMemory {
+        NoMemory
+    }
+}

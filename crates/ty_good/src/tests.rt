@@ -1,144 +1,124 @@
-use crate::{
-    carried_linearisations, conformance, conforms, has_main, inherited_members, join, joins,
-    members_differ, parameters_fit, parents_fit,
-};
-use sqlite_items::Items;
-use std::alloc::{AllocError, Global};
+use crate::{has_forms, is_good_with, numbers_in_range};
+use std::alloc::Global;
 use std::test::Fail;
-use ty_prog::{Class, Expr, Kind, Method, Name, Program, Ty};
+use ty_complete::{
+    begins_with_prelude, files_differ, finds_all, has_linearisations, has_main, is_complete,
+    members_differ, names_fit, new_is_concrete, parameters_fit, parents_fit, texts_fit,
+};
+use ty_flow::locals_are_set_first;
+use ty_prog::{Expr, Node, Program, weight};
+use ty_room::numbers::{CELL_ENTRIES, FIELD_ENTRIES, METHOD_ENTRIES, MOST_WEIGHT};
+use ty_room::{entries, has_room};
+use ty_typed::is_typed_with;
 
-// What is wrong with the program.
-#[derive(Clone, Copy, PartialEq, Eq)]
-enum Flaw {
-    None,
-    Parameters,
-    Members,
-    Parents,
-    Main,
+mod lowered;
+mod program;
+
+use lowered::{accessor, lowered};
+use program::{Flaw, locals, program};
+
+// Whether the parts that one class alone tells are broken exactly where they are the flaw.
+fn members_tell(p: &Program, flaw: Flaw) -> bool {
+    names_fit(p) == (flaw != Flaw::Names)
+        && parameters_fit(p) == (flaw != Flaw::Parameters)
+        && members_differ(p) == (flaw != Flaw::Members)
+        && parents_fit(p) == (flaw != Flaw::Parents)
+        && numbers_in_range(p) == (flaw != Flaw::Numbers)
 }
 
-fn class(
-    alloc: Global,
-    kind: Kind,
-    parents: &[u32],
-    linear: &[u32],
-    methods: Items<Method>,
-) -> Result<Class, AllocError> {
-    Ok(Class {
-        name: Name::from_text(alloc, "X")?,
-        kind,
-        parents: Items::from_slice(alloc, parents)?,
-        linear: Items::from_slice(alloc, linear)?,
-        params: Items::new(alloc),
-        fields: Items::new(alloc),
-        cells: Items::new(alloc),
-        methods,
-        super_args: Items::new(alloc),
-        body: Items::new(alloc),
-        locals: 0,
-    })
+// Those that classes tell together.
+fn classes_tell(alloc: Global, p: &Program, flaw: Flaw) -> bool {
+    begins_with_prelude(alloc, p) == Ok(flaw != Flaw::Begins)
+        && files_differ(alloc, p) == Ok(flaw != Flaw::Files)
+        && has_linearisations(alloc, p) == Ok(flaw != Flaw::Linearisations)
+        && has_main(alloc, p) == Ok(flaw != Flaw::Main)
 }
 
-fn method(alloc: Global, name: &str, params: usize) -> Result<Method, AllocError> {
-    let mut list = Items::new(alloc);
-    for _ in 0..params {
-        list.push(Ty::Array)?;
-    }
-    Ok(Method {
-        name: Name::from_text(alloc, name)?,
-        params: list,
-        result: Ty::Unit,
-        body: Some(Expr::Unit),
-        is_static: false,
-        locals: 0,
-    })
+// Those that nodes tell.
+fn nodes_tell(p: &Program, flaw: Flaw) -> bool {
+    texts_fit(p) == Ok(flaw != Flaw::Texts)
+        && new_is_concrete(p) == Ok(flaw != Flaw::Concrete)
+        && finds_all(p) == Ok(flaw != Flaw::Found)
+        && locals_are_set_first(p) == (flaw != Flaw::Set)
+        && has_forms(0, p) == Ok(flaw != Flaw::Forms)
 }
 
-fn methods(alloc: Global, flaw: Flaw) -> Result<Items<Method>, AllocError> {
-    let mut list = Items::new(alloc);
-    list.push(method(alloc, "main", if flaw == Flaw::Main { 2 } else { 1 })?)?;
-    let name = if flaw == Flaw::Members { "main" } else { "m" };
-    list.push(method(
-        alloc,
-        name,
-        if flaw == Flaw::Parameters { 122 } else { 121 },
-    )?)?;
-    Ok(list)
-}
-
-// The diamond: class 0; traits 1 and 2 below it; object 3 below it with both.
-fn diamond(alloc: Global, flaw: Flaw) -> Result<Program, AllocError> {
-    let mut classes = Items::new(alloc);
-    let none = Items::new(alloc);
-    classes.push(class(alloc, Kind::Class, &[], &[0], none)?)?;
-    let first = if flaw == Flaw::Parents {
-        Kind::Class
-    } else {
-        Kind::Trait
+// Whether those that need the types of locals are broken exactly where they should be.
+fn types_tell(alloc: Global, p: &Program, flaw: Flaw) -> bool {
+    let Ok(types) = locals(alloc, p) else {
+        return false;
     };
-    classes.push(class(alloc, first, &[0], &[1, 0], Items::new(alloc))?)?;
-    classes.push(class(alloc, Kind::Trait, &[0], &[2, 0], Items::new(alloc))?)?;
-    let own = methods(alloc, flaw)?;
-    classes.push(class(alloc, Kind::Object, &[0, 1, 2], &[3, 2, 1, 0], own)?)?;
-    Ok(Program { classes, main: 3 })
+    is_typed_with(p, types.as_slice()) == Ok(flaw != Flaw::Typed)
+        && is_good_with(alloc, 0, p, types.as_slice()) == Ok(flaw == Flaw::None)
 }
 
-#[test]
-fn types_of_a_diamond(rt: HostRuntime) -> Result<(), Fail> {
-    conformance();
-    joins();
-    inherited_members();
-    carried_linearisations();
-    let p = diamond(rt.alloc(), Flaw::None)?;
-    let (low, left, right) = (Ty::Class(3), Ty::Class(1), Ty::Class(2));
-    for (lower, upper, is) in [
-        (low, left, true),
-        (left, right, false),
-        (left, low, false),
-        (low, Ty::AnyRef, true),
-        (Ty::Class(9), Ty::Class(9), true),
-        (Ty::Class(9), low, false),
-        (Ty::Null, left, true),
-        (Ty::Null, Ty::Int, false),
-        (Ty::Nothing, Ty::Int, true),
-        (Ty::Int, Ty::Long, false),
-        (Ty::Int, Ty::Any, true),
-        (Ty::Int, Ty::AnyRef, false),
-        (Ty::Text, Ty::AnyRef, true),
-        (Ty::Array, Ty::AnyRef, false),
-    ] {
-        assert_eq!(rt; conforms(&p, &lower, &upper), is);
-    }
-    for (one, other, both) in [
-        (low, left, left),
-        (left, right, Ty::AnyRef),
-        (Ty::Long, Ty::Int, Ty::Long),
-        (Ty::Int, Ty::Boolean, Ty::Any),
-        (Ty::Null, Ty::Text, Ty::Text),
-        (Ty::Text, left, Ty::AnyRef),
-        (Ty::Nothing, Ty::Int, Ty::Int),
-        (Ty::Int, left, Ty::Any),
-    ] {
-        assert_eq!(rt; join(&p, &one, &other), both);
-    }
-    Ok(())
+// Whether the flaw breaks its part and no other.
+fn breaks_one(alloc: Global, flaw: Flaw) -> bool {
+    let Ok(p) = program(alloc, flaw) else {
+        return false;
+    };
+    let complete = matches!(flaw, Flaw::Typed | Flaw::Numbers | Flaw::Forms | Flaw::None);
+    members_tell(&p, flaw)
+        && classes_tell(alloc, &p, flaw)
+        && nodes_tell(&p, flaw)
+        && types_tell(alloc, &p, flaw)
+        && is_complete(alloc, &p) == Ok(complete)
 }
 
-// Each flaw breaks one part and no other.
 #[test]
 fn flaws(rt: HostRuntime) -> Result<(), Fail> {
     for flaw in [
         Flaw::None,
+        Flaw::Begins,
+        Flaw::Files,
+        Flaw::Names,
+        Flaw::Texts,
         Flaw::Parameters,
         Flaw::Members,
+        Flaw::Linearisations,
         Flaw::Parents,
+        Flaw::Concrete,
+        Flaw::Found,
+        Flaw::Set,
         Flaw::Main,
+        Flaw::Typed,
+        Flaw::Numbers,
+        Flaw::Forms,
     ] {
-        let p = diamond(rt.alloc(), flaw)?;
-        assert_eq!(rt; parameters_fit(&p), flaw != Flaw::Parameters);
-        assert_eq!(rt; members_differ(&p), flaw != Flaw::Members);
-        assert_eq!(rt; parents_fit(&p), flaw != Flaw::Parents);
-        assert_eq!(rt; has_main(rt.alloc(), &p) == Ok(true), flaw != Flaw::Main);
+        assert!(rt; breaks_one(rt.alloc(), flaw));
     }
+    Ok(())
+}
+
+// Whether the program is good after k lowerings exactly for k from one number to another, of 0 to 4.
+fn is_good_from(alloc: Global, p: &Program, first: u32, last: u32) -> bool {
+    let Ok(types) = locals(alloc, p) else {
+        return false;
+    };
+    for k in 0..5 {
+        let wanted = first <= k && k <= last;
+        if is_good_with(alloc, k, p, types.as_slice()) != Ok(wanted) {
+            return false;
+        }
+    }
+    true
+}
+
+// Whether an accessor weighs no more than a body may, and what is made of a cell brings no more than a cell counts: a
+// field, two methods and the accessor's tree.
+fn cell_has_room(accessor: &Expr) -> bool {
+    let root = Node::Expr(accessor);
+    let made = entries(root).saturating_add(FIELD_ENTRIES + 2 * METHOD_ENTRIES);
+    weight(root) <= MOST_WEIGHT && made <= CELL_ENTRIES
+}
+
+// The first program has a lazy member, as its only high form; the other has it lowered.
+#[test]
+fn lowerings(rt: HostRuntime) -> Result<(), Fail> {
+    let high = program(rt.alloc(), Flaw::None)?;
+    assert!(rt; is_good_from(rt.alloc(), &high, 0, 3) && has_room(&high));
+    let low = lowered(rt.alloc())?;
+    assert!(rt; is_good_from(rt.alloc(), &low, 4, 4) && has_room(&low));
+    assert!(rt; cell_has_room(&accessor(rt.alloc())?));
     Ok(())
 }
