@@ -21,12 +21,11 @@ fn list(alloc: Global, first: Expr, second: Expr) -> Result<Items<Expr>, AllocEr
 
 // The forms without children, by a number.
 fn leaf(alloc: Global, i: u32) -> Result<Expr, AllocError> {
-    let text = Name::from_text(alloc, "text")?;
     Ok(match i {
         0 => Expr::Int(1),
         1 => Expr::Long(2),
         2 => Expr::Bool(true),
-        3 => Expr::Text(text),
+        3 => Expr::Text(Name::from_text(alloc, "text")?),
         4 => Expr::Null,
         5 => Expr::Unit,
         6 => Expr::Local(0),
@@ -68,9 +67,9 @@ fn unary(alloc: Global, i: u32) -> Result<Expr, AllocError> {
     })
 }
 
-// Those with two or three children.
+// Those with two children.
 fn joined(alloc: Global, i: u32) -> Result<Expr, AllocError> {
-    let (a, b, c) = (one(alloc)?, one(alloc)?, one(alloc)?);
+    let (a, b) = (one(alloc)?, one(alloc)?);
     Ok(match i {
         0 => Expr::Put {
             of: a,
@@ -79,8 +78,15 @@ fn joined(alloc: Global, i: u32) -> Result<Expr, AllocError> {
             value: b,
         },
         1 => Expr::Equal(a, b),
-        2 => Expr::While(a, b),
-        3 => Expr::If(a, b, c),
+        _ => Expr::While(a, b),
+    })
+}
+
+// Those with three.
+fn tripled(alloc: Global, i: u32) -> Result<Expr, AllocError> {
+    let (a, b, c) = (one(alloc)?, one(alloc)?, one(alloc)?);
+    Ok(match i {
+        0 => Expr::If(a, b, c),
         _ => Expr::Cas {
             of: a,
             class: 0,
@@ -94,8 +100,6 @@ fn joined(alloc: Global, i: u32) -> Result<Expr, AllocError> {
 // Those with a list of children, here two.
 fn listed(alloc: Global, i: u32) -> Result<Expr, AllocError> {
     let args = list(alloc, Expr::Int(1), Expr::Int(2))?;
-    let name = Name::from_text(alloc, "m")?;
-    let of = one(alloc)?;
     Ok(match i {
         0 => Expr::Block(args),
         1 => Expr::New { class: 0, args },
@@ -103,18 +107,7 @@ fn listed(alloc: Global, i: u32) -> Result<Expr, AllocError> {
             op: PrimOp::Add,
             args,
         },
-        3 => Expr::SuperCall {
-            after: 0,
-            name,
-            args,
-        },
-        4 => Expr::StaticCall {
-            class: 0,
-            method: 0,
-            args,
-        },
-        _ => Expr::Call {
-            of,
+        _ => Expr::StaticCall {
             class: 0,
             method: 0,
             args,
@@ -122,16 +115,32 @@ fn listed(alloc: Global, i: u32) -> Result<Expr, AllocError> {
     })
 }
 
-// The patterns without parts, and those with one.
+// Those with a list beside something else.
+fn called(alloc: Global) -> Result<Expr, AllocError> {
+    Ok(Expr::Call {
+        of: one(alloc)?,
+        class: 0,
+        method: 0,
+        args: list(alloc, Expr::Int(1), Expr::Int(2))?,
+    })
+}
+
+fn super_called(alloc: Global) -> Result<Expr, AllocError> {
+    Ok(Expr::SuperCall {
+        after: 0,
+        name: Name::from_text(alloc, "m")?,
+        args: list(alloc, Expr::Int(1), Expr::Int(2))?,
+    })
+}
+
+// A pattern with one part, or with none.
 fn pattern(alloc: Global, i: u32) -> Result<Pattern, AllocError> {
-    let inner = Boxed::new(alloc, Pattern::Any)?;
-    let literal = one(alloc)?;
     Ok(match i {
         0 => Pattern::Any,
         1 => Pattern::OfType(Ty::Int),
         2 => Pattern::Object(0),
-        3 => Pattern::Bind(0, inner),
-        _ => Pattern::Literal(literal),
+        3 => Pattern::Bind(0, Boxed::new(alloc, Pattern::Any)?),
+        _ => Pattern::Literal(one(alloc)?),
     })
 }
 
@@ -157,30 +166,30 @@ fn cases(alloc: Global, guard: Option<Expr>) -> Result<Items<Case>, AllocError> 
     Ok(cases)
 }
 
-// A match, or a `try` with each form of handler.
-fn branching(alloc: Global, i: u32) -> Result<Expr, AllocError> {
-    let (body, other) = (one(alloc)?, one(alloc)?);
-    let cases = cases(alloc, Some(Expr::Bool(true)))?;
+fn matched(alloc: Global) -> Result<Expr, AllocError> {
+    Ok(Expr::Match {
+        of: one(alloc)?,
+        cases: cases(alloc, Some(Expr::Bool(true)))?,
+    })
+}
+
+// Each form of handler.
+fn handler(alloc: Global, i: u32) -> Result<Option<Catch>, AllocError> {
     Ok(match i {
-        0 => Expr::Match { of: body, cases },
-        1 => Expr::Try {
-            body,
-            handler: Some(Catch::Cases(cases)),
-            last: Some(other),
-        },
-        2 => Expr::Try {
-            body,
-            handler: Some(Catch::Any {
-                local: 0,
-                body: other,
-            }),
-            last: None,
-        },
-        _ => Expr::Try {
-            body,
-            handler: None,
-            last: Some(other),
-        },
+        0 => None,
+        1 => Some(Catch::Any {
+            local: 0,
+            body: one(alloc)?,
+        }),
+        _ => Some(Catch::Cases(cases(alloc, None)?)),
+    })
+}
+
+fn tried(alloc: Global, i: u32, last: Option<Boxed<Expr>>) -> Result<Expr, AllocError> {
+    Ok(Expr::Try {
+        body: one(alloc)?,
+        handler: handler(alloc, i)?,
+        last,
     })
 }
 
@@ -190,10 +199,22 @@ fn statements(alloc: Global) -> Result<Items<Expr>, AllocError> {
         es.push(leaf(alloc, i)?)?;
         es.push(unary(alloc, i)?)?;
     }
-    for i in 0..6 {
+    for i in 0..4 {
         es.push(joined(alloc, i)?)?;
+        es.push(tripled(alloc, i)?)?;
         es.push(listed(alloc, i)?)?;
-        es.push(branching(alloc, i)?)?;
+    }
+    more_statements(alloc, es)
+}
+
+fn more_statements(alloc: Global, es: Items<Expr>) -> Result<Items<Expr>, AllocError> {
+    let mut es = es;
+    es.push(called(alloc)?)?;
+    es.push(super_called(alloc)?)?;
+    es.push(matched(alloc)?)?;
+    for i in 0..3 {
+        es.push(tried(alloc, i, None)?)?;
+        es.push(tried(alloc, i, Some(one(alloc)?))?)?;
     }
     Ok(es)
 }
@@ -237,18 +258,20 @@ fn walked(alloc: Global, root: Node<'_>) -> Result<u32, AllocError> {
     Ok(count)
 }
 
+// Whether a program's first class has so many nodes, each at a place, and weighs so much.
+fn counts(alloc: Global, p: &Program, count: u32, heavy: u32) -> Result<bool, AllocError> {
+    let Some(class) = p.classes.get(0) else {
+        return Ok(false);
+    };
+    let root = Node::Constructor(class);
+    Ok(nodes(root) == count && walked(alloc, root)? == count && weight(root) == heavy)
+}
+
 #[test]
 fn every_form(rt: HostRuntime) -> Result<(), Fail> {
     let made = program(rt.alloc())?;
+    assert!(rt; counts(rt.alloc(), &made, 139, 1538)?);
     let copied = copy(rt.alloc(), &made)?;
-    for p in [&made, &copied] {
-        let Some(class) = p.classes.get(0) else {
-            panic!(rt; "no class")
-        };
-        let root = Node::Constructor(class);
-        assert_eq!(rt; nodes(root), 120);
-        assert_eq!(rt; walked(rt.alloc(), root)?, nodes(root));
-        assert_eq!(rt; weight(root), 1228);
-    }
+    assert!(rt; counts(rt.alloc(), &copied, 139, 1538)?);
     Ok(())
 }
