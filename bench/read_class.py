@@ -19,7 +19,7 @@ CONSTANTS = {3: 4, 4: 4, 5: 8, 6: 8, 7: 2, 8: 2, 9: 4, 10: 4, 11: 4, 12: 4, 15: 
 
 
 def instructions(code):
-    """The place and the opcode of each instruction."""
+    """The offset and the opcode of each instruction."""
     at = 0
     while at < len(code):
         op = code[at]
@@ -45,7 +45,7 @@ class Reader:
         self.data, self.at = data, 0
         self.texts, self.codes = {}, []
         self.constants = self.fields = self.methods = 0
-        # the places of tags that scalazy's format lacks
+        # the offsets of tags that scalazy's format lacks
         self.odd_tags = []
 
     def number(self, size):

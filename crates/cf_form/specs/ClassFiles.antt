@@ -1,8 +1,8 @@
 -- Which bytes are a class file (JVMS 4), what they say, and which of them are written.
-use Rattle.std.specs.Prelude.{◌≡◌, ◌≢◌, ℕ, ◌<◌, ◌≤◌, List, [], ◌∷◌, ◌++◌, length, Option, None, Some, bit_and, IsTrue, map, codes, IfSome}
+use Rattle.std.specs.Prelude.{◌≡◌, ◌≢◌, ℕ, ◌<◌, ◌≤◌, List, [], ◌∷◌, ◌++◌, length, Option, None, Some, Bool, bit_and, IsTrue, map, codes, IfSome, nat_le, ◌&&◌, ◌||◌, ◌==◌}
 use Rattle.std.specs.List.{AllByRecursion}
 use Rattle.cf_form.specs.Pool.{pool_of, names, refers_well, text_at, kind_needed}
-use Rattle.cf_form.specs.Instructions.{IsCode, code_bytes, place, number}
+use Rattle.cf_form.specs.Instructions.{IsCode, code_bytes, offset, number}
 use Rattle.cf_form.specs.Outline.{Attribute, Member, Row, CodeOutline, code_outline_bytes, CodeOutlineFits, Outline, outline_bytes, OutlineFits}
 use Rattle.cf_form.specs.declared.class_file.ClassFile.{ClassFile}
 use Rattle.cf_form.specs.declared.class_file.FieldInfo.{FieldInfo}
@@ -17,14 +17,14 @@ use Rattle.cf_form.specs.declared.kind.Kind.TheVariants as kind
 abbrev pub NamesWell : List Const → Instr → Type 0
 NamesWell pool i = IfSome (kind_needed i.op) (λ needed. IsTrue (names pool needed (number i.a)))
 
--- the row of a handler, its places in bytes
+-- the row of a handler: its ends as offsets in bytes
 abbrev pub row_of : List Instr → Handler → Row
-row_of code h = record { from = place code h.from; to = place code h.to; target = place code h.target; class = h.class }
+row_of code h = record { from = offset code h.from; to = offset code h.to; target = offset code h.target; class = h.class }
 
--- it guards instructions of the code, the last one perhaps included, leads to one, and catches a class or everything
+-- its start, end and target are each one of n instructions or the end behind them, and it catches a class or everything
 abbrev pub HandlerFits : List Const → ℕ → Handler → Type 0
 HandlerFits pool n h =
-    (h.from < n) × (h.to ≤ n) × (h.target < n) × (h.class ≢ 0 → IsTrue (names pool kind.Class h.class))
+    (h.from ≤ n) × (h.to ≤ n) × (h.target ≤ n) × (h.class ≢ 0 → IsTrue (names pool kind.Class h.class))
 
 -- these bytes of a Code attribute hold this code
 pub record HoldsCode (pool : List Const) (info : List ℕ) (code : Code) : Type 0 where
@@ -57,6 +57,7 @@ pub record HasCode (pool : List Const) (attributes : List Attribute) (code : Cod
   pub others : AllByRecursion (IsOther pool) (before ++ after)
   pub holds : HoldsCode pool attribute.info code
 
+-- the code of a method with these attributes is this one where there is one; else no attribute is a Code
 abbrev pub HasCodeOrNone : List Const → List Attribute → Option Code → Type 0
 HasCodeOrNone pool attributes None = AllByRecursion (IsOther pool) attributes
 HasCodeOrNone pool attributes (Some code) = HasCode pool attributes code
@@ -65,6 +66,7 @@ HasCodeOrNone pool attributes (Some code) = HasCode pool attributes code
 abbrev pub IsWithoutCode : ℕ → Type 0
 IsWithoutCode access = bit_and access 0x0500 ≢ 0
 
+-- a method with these access flags has a code exactly where neither is set
 abbrev pub IsCodeDue : ℕ → Option Code → Type 0
 IsCodeDue access None = IsWithoutCode access
 IsCodeDue access (Some code) = bit_and access 0x0500 ≡ 0
@@ -102,12 +104,15 @@ AreDifferent (x ∷ xs) = AllByRecursion (λ y. y ≢ x) xs × AreDifferent xs
 abbrev pub AreNamed : List Const → List Member → Type 0
 AreNamed pool members = AllByRecursion (IsNamed pool) members × AreDifferent (map (key pool) members)
 
+-- the major versions that are read and written: 45 to 49, and 52
+abbrev pub is_version : ℕ → Bool
+is_version major = (nat_le 45 major && nat_le major 49) || major == 52
+
 -- the outline breaks no rule, and this is what it says
 pub record Says (o : Outline) (file : ClassFile) : Type 0 where
   pub minor : o.minor ≡ file.minor
   pub major : o.major ≡ file.major
-  pub not_older : 45 ≤ file.major
-  pub not_newer : file.major ≤ 49
+  pub version : IsTrue (is_version file.major)
   pub pool : pool_of o.constants ≡ file.pool
   pub refers : AllByRecursion (λ c. IsTrue (refers_well file.pool c)) o.constants
   pub access : o.access ≡ file.access
@@ -149,14 +154,12 @@ abbrev pub HasCodeAlone : List Const → Member → Type 0
 HasCodeAlone pool m =
     AllByRecursion (λ (a : Attribute). IsFirstCodeName pool a.name × IsBare a.info) m.attributes
 
--- the version is 49.0, and no attribute stands anywhere but Code in methods
+-- no attribute stands anywhere but Code in methods
 pub record IsPlain (o : Outline) : Type 0 where
-  pub minor : o.minor ≡ 0
-  pub major : o.major ≡ 49
   pub fields : AllByRecursion HasNone o.fields
   pub methods : AllByRecursion (HasCodeAlone (pool_of o.constants)) o.methods
   pub attributes : o.attributes ≡ []
 
--- the bytes are the one spelling of the file that is written
+-- the bytes are the one spelling of the file, in its own version, with no attribute but Code
 abbrev pub Spelled : ClassFile → List ℕ → Type 0
 Spelled file bytes = (o : Outline) × ReadsBy o bytes file × IsPlain o

@@ -4,24 +4,26 @@ use Rattle.std.specs.List.{flat_map, sum_by, AllByRecursion}
 use Rattle.std.specs.Int.{w8, w16, w32, to_be_bytes, cast_unsigned}
 use Rattle.cf_form.specs.Opcodes.{shape_of}
 use Rattle.cf_form.specs.declared.instr.Instr.{Instr}
-use Rattle.cf_form.specs.declared.operands.Shape.{Shape}
-use Rattle.cf_form.specs.declared.operands.Shape.TheVariants.{Plain, Signed1, Signed2, Pool1, Pool2, Local, Step, Jump2, Jump4, Face, Wide}
+use Rattle.cf_form.specs.declared.shape.Shape.{Shape}
+use Rattle.cf_form.specs.declared.shape.Shape.TheVariants.{Plain, S1, S2, Pool1, Pool2, Local, Step, Jump2, Jump4, Face, Wide}
 
--- one, two and four bytes, the high one first; a number below 0 in two's complement
+-- a number in one byte; below 0 in two's complement
 abbrev pub one : ℤ → List ℕ
 one x = to_be_bytes w8 (cast_unsigned w8 x)
 
+-- a number in two bytes, the high one first
 abbrev pub two : ℤ → List ℕ
 two x = to_be_bytes w16 (cast_unsigned w16 x)
 
+-- a number in four bytes, the high one first
 abbrev pub four : ℤ → List ℕ
 four x = to_be_bytes w32 (cast_unsigned w32 x)
 
 -- the operands a and b of a shape, plain and after `wide`
 abbrev pub operands : Shape → Bool → ℤ → ℤ → List ℕ
 operands Plain wide a b = []
-operands Signed1 wide a b = one a
-operands Signed2 wide a b = two a
+operands S1 wide a b = one a
+operands S2 wide a b = two a
 operands Pool1 wide a b = one a
 operands Pool2 wide a b = two a
 operands Local false a b = one a
@@ -47,18 +49,19 @@ bytes_by (Some shape) i =
 unfoldable pub bytes_of : Instr → List ℕ
 bytes_of i = bytes_by (shape_of i.op) i
 
--- a number of one byte, and of two
+-- a number of one byte, without sign
 abbrev pub Is1 : ℤ → Type 0
 Is1 x = (pos 0 ≤ℤ x) × (x <ℤ pos 256)
 
+-- a number of two bytes, without sign
 abbrev pub Is2 : ℤ → Type 0
 Is2 x = (pos 0 ≤ℤ x) × (x <ℤ pos 65536)
 
 -- what a and b may be; an operand that the shape doesn't have is 0, and only loads, stores and `iinc` stand after `wide`
 abbrev pub OperandsFit : Shape → Bool → ℤ → ℤ → Type 0
 OperandsFit Plain wide a b = (wide ≡ false) × (a ≡ pos 0) × (b ≡ pos 0)
-OperandsFit Signed1 wide a b = (wide ≡ false) × FitsSigned w8 a × (b ≡ pos 0)
-OperandsFit Signed2 wide a b = (wide ≡ false) × FitsSigned w16 a × (b ≡ pos 0)
+OperandsFit S1 wide a b = (wide ≡ false) × FitsSigned w8 a × (b ≡ pos 0)
+OperandsFit S2 wide a b = (wide ≡ false) × FitsSigned w16 a × (b ≡ pos 0)
 OperandsFit Pool1 wide a b = (wide ≡ false) × Is1 a × (b ≡ pos 0)
 OperandsFit Pool2 wide a b = (wide ≡ false) × Is2 a × (b ≡ pos 0)
 OperandsFit Local false a b = Is1 a × (b ≡ pos 0)
@@ -70,6 +73,7 @@ OperandsFit Jump4 wide a b = (wide ≡ false) × FitsSigned w32 a × (b ≡ pos 
 OperandsFit Face wide a b = (wide ≡ false) × Is2 a × Is1 b
 OperandsFit Wide wide a b = ⊥
 
+-- the operands of an instruction of this shape fit it
 abbrev pub FitsBy : Option Shape → Instr → Type 0
 FitsBy None i = ⊥
 FitsBy (Some shape) i = OperandsFit shape i.wide i.a i.b
@@ -82,15 +86,17 @@ Fits i = FitsBy (shape_of i.op) i
 abbrev pub size : Instr → ℕ
 size i = length (bytes_of i)
 
--- the first byte of the n-th instruction of a code, counted from 0; of the last and one, the length in bytes
-unfoldable pub place : List Instr → ℕ → ℕ
-place code n = sum_by size (take n code)
+-- where the n-th instruction of a code begins, in bytes from 0; after the last, the length in bytes
+unfoldable pub offset : List Instr → ℕ → ℕ
+offset code n = sum_by size (take n code)
 
+-- what follows is an offset to the target of a jump
 abbrev pub jumps_by : Option Shape → Bool
 jumps_by (Some Jump2) = true
 jumps_by (Some Jump4) = true
 jumps_by _ = false
 
+-- the instruction jumps
 unfoldable pub jumps : Instr → Bool
 jumps i = jumps_by (shape_of i.op)
 
@@ -102,7 +108,7 @@ number (negsuc n) = 0
 -- the instruction that begins at the byte `at`, its jump with the offset in place of the target's number
 abbrev pub with_offset : List Instr → ℕ → Instr → Instr
 with_offset code at i =
-    if jumps i then record { op = i.op; wide = i.wide; a = pos (place code (number i.a)) -ℤ pos at; b = i.b } else i
+    if jumps i then record { op = i.op; wide = i.wide; a = pos (offset code (number i.a)) -ℤ pos at; b = i.b } else i
 
 -- these instructions of a code, of which the first begins at the byte `at`, with offsets
 abbrev pub with_offsets : List Instr → ℕ → List Instr → List Instr

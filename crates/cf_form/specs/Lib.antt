@@ -1,3 +1,4 @@
+-- What a reader must believe, in this order.
 pub mod Opcodes
 pub mod Instructions
 pub mod Pool

@@ -2,7 +2,7 @@
 use Rattle.std.specs.Prelude.{ℕ, ◌<◌, List, [], ◌∷◌, Option, None, Some, nat_eq, if◌then◌else◌}
 use Rattle.cf_form.specs.declared.op_form.OpForm.{OpForm}
 use Rattle.cf_form.specs.declared.op_form.TheConstants.{FORMS}
-use Rattle.cf_form.specs.declared.operands.Shape.{Shape}
+use Rattle.cf_form.specs.declared.shape.Shape.{Shape}
 
 -- the shape that an opcode has among these rows
 abbrev pub shape_among : List OpForm → ℕ → Option Shape

@@ -8,10 +8,11 @@ use Rattle.cf_form.specs.declared.constant.Const.TheVariants.{Utf8, Int, Float, 
 use Rattle.cf_form.specs.declared.kind.Kind.{Kind}
 use Rattle.cf_form.specs.declared.kind.Kind.TheVariants as kind
 
--- a natural number in two bytes, and in four
+-- a natural number in two bytes
 abbrev pub u2 : ℕ → List ℕ
 u2 n = to_be_bytes w16 n
 
+-- a natural number in four bytes
 abbrev pub u4 : ℕ → List ℕ
 u4 n = to_be_bytes w32 n
 
@@ -49,15 +50,15 @@ ConstantFits (Interface class member) = Fits2 class × Fits2 member
 ConstantFits (NameType name descriptor) = Fits2 name × Fits2 descriptor
 ConstantFits Rest = ⊥
 
--- the places that a constant takes: a Long and a Double take two (JVMS 4.4.5)
-abbrev pub places : Const → List Const
-places (Long x) = Long x ∷ Rest ∷ []
-places (Double bits) = Double bits ∷ Rest ∷ []
-places constant = constant ∷ []
+-- the entries that a constant takes: a Long and a Double take two (JVMS 4.4.5)
+abbrev pub entries_of : Const → List Const
+entries_of (Long x) = Long x ∷ Rest ∷ []
+entries_of (Double bits) = Double bits ∷ Rest ∷ []
+entries_of constant = constant ∷ []
 
 -- the pool that these constants make
 abbrev pub pool_of : List Const → List Const
-pool_of constants = flat_map places constants
+pool_of constants = flat_map entries_of constants
 
 -- the entry at an index, if there is one: the first entry has the index 1
 abbrev pub entry : List Const → ℕ → Option Const
@@ -72,6 +73,8 @@ is_of kind.NameType (NameType name descriptor) = true
 is_of kind.Field (Field class member) = true
 is_of kind.Method (Method class member) = true
 is_of kind.Interface (Interface class member) = true
+is_of kind.AnyMethod (Method class member) = true
+is_of kind.AnyMethod (Interface class member) = true
 is_of kind.Single (Int x) = true
 is_of kind.Single (Float bits) = true
 is_of kind.Single (Text text) = true
@@ -80,6 +83,7 @@ is_of kind.Double (Long x) = true
 is_of kind.Double (Double bits) = true
 is_of _ _ = false
 
+-- whether there is a constant of a kind
 abbrev pub is_some_of : Kind → Option Const → Bool
 is_some_of needed None = false
 is_some_of needed (Some constant) = is_of needed constant
@@ -98,11 +102,12 @@ refers_well pool (Interface class member) = names pool kind.Class class && names
 refers_well pool (NameType name descriptor) = names pool kind.Utf8 name && names pool kind.Utf8 descriptor
 refers_well pool _ = true
 
--- the text at an index; none where it names no text
+-- the text that a constant is, if it is one
 abbrev pub text_by : Option Const → Option (List ℕ)
 text_by (Some (Utf8 text)) = Some text
 text_by _ = None
 
+-- the text at an index; none where it names no text
 abbrev pub text_at : List Const → ℕ → Option (List ℕ)
 text_at pool index = text_by (entry pool index)
 
@@ -112,6 +117,7 @@ kind_needed op =
     if op == 18 || op == 19 then Some kind.Single
     else (if op == 20 then Some kind.Double
     else (if nat_le 178 op && nat_le op 181 then Some kind.Field
-    else (if nat_le 182 op && nat_le op 184 then Some kind.Method
+    else (if op == 182 || op == 183 then Some kind.Method
+    else (if op == 184 then Some kind.AnyMethod
     else (if op == 185 then Some kind.Interface
-    else (if op == 187 || op == 192 || op == 193 then Some kind.Class else None)))))
+    else (if op == 187 || op == 192 || op == 193 then Some kind.Class else None))))))

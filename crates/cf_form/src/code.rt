@@ -14,7 +14,7 @@ pub struct Code {
 
 /// A row of the exception table (JVMS 4.7.3): an exception of the class that the pool entry `class` names, or any where
 /// `class` is 0, leads from the instructions `from` up to but not including `to` to the instruction `target`. The three
-/// are numbers of instructions.
+/// are numbers of instructions, of which the number behind the last one means the code's end.
 #[derive(Clone, Copy, Debug, PartialEq, Eq)]
 pub struct Handler {
     pub from: u32,

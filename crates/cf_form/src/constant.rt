@@ -1,6 +1,6 @@
 //! Entries of the constant pool.
 
-use sl_name::Name;
+use sl_base::Name;
 
 /// An entry of the constant pool (JVMS 4.4). The numbers are indexes of the pool.
 #[derive(Debug, Drop)]
@@ -23,6 +23,6 @@ pub enum Const {
     Interface(u16, u16),
     /// A name and a descriptor.
     NameType(u16, u16),
-    /// The second of the two places that a Long or Double takes (JVMS 4.4.5).
+    /// The second of the two entries that a Long or Double takes (JVMS 4.4.5).
     Rest,
 }

@@ -4,27 +4,29 @@
 mod class_file;
 mod code;
 mod constant;
+mod entries;
 mod instr;
 mod kind;
-mod kinds;
 mod laws;
 mod lookup;
 mod op_form;
 mod op_rows;
 mod op_table;
-mod operands;
+mod shape;
+mod version;
 
 pub use class_file::{ClassFile, FieldInfo, MethodInfo};
 pub use code::{Code, Handler};
 pub use constant::Const;
+pub use entries::{entry, names};
 pub use instr::Instr;
-pub use kind::Kind;
-pub use kinds::{entry, has_kind, is_kind, needed_by};
+pub use kind::{Kind, is_of, kind_needed};
 pub use laws::{rows, writing};
-pub use lookup::{row, shape};
+pub use lookup::{row, shape_of};
 pub use op_form::{FORMS, OpForm};
 pub use op_table::{OPS, OpRow, OpTable};
-pub use operands::Shape;
+pub use shape::Shape;
+pub use version::is_version;
 
 #[cfg(test)]
 mod tests;

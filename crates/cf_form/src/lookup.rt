@@ -6,7 +6,7 @@ ghost use Rattle.cf_form.specs.Opcodes.{shape_among, shape_of};
 use crate::op_form::{FORMS, OpForm};
 use crate::op_rows;
 use crate::op_table::OpRow;
-use crate::operands::Shape;
+use crate::shape::Shape;
 
 macro_rules! shapes {
     ([$op:tt] $($code:literal $name:literal $shape:ident,)*) => {
@@ -28,7 +28,8 @@ macro_rules! names {
 
 /// What follows this opcode; None where no row has it.
 #[tactic(auto, unfolding(crate::specs::Opcodes::shape_of))]
-pub fn shape(op: u8) -> Option<Shape>
+#[inline(always)]
+pub fn shape_of(op: u8) -> Option<Shape>
     ensures { result ≡ shape_of op }
 {
     op_rows!(shapes, op)
@@ -38,7 +39,7 @@ pub fn shape(op: u8) -> Option<Shape>
 pub fn row(op: u8) -> Option<OpRow>
     ensures { MatchOption result (shape_of op ≡ None) (λ row. (row.op ≡ op) × (shape_of op ≡ Some row.shape)) }
 {
-    match shape(op) {
+    match shape_of(op) {
         Some(shape) => Some(OpRow {
             op,
             name: name(op),
@@ -54,6 +55,8 @@ fn name(op: u8) -> &'static str {
 }
 
 /// The shape that these rows have for this opcode, by going through them.
+#[cold]
+#[inline(never)]
 fn searched(rows: &[OpForm], op: u8) -> Option<Shape>
     ensures { result ≡ shape_among rows.now op }
 {

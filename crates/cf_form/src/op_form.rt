@@ -1,7 +1,7 @@
 //! What clauses know of the table of opcodes.
 
 use crate::op_rows;
-use crate::operands::Shape;
+use crate::shape::Shape;
 
 /// An opcode and what follows it.
 #[derive(Clone, Copy)]

@@ -1,7 +1,7 @@
 //! The table of opcodes.
 
 use crate::op_rows;
-use crate::operands::Shape;
+use crate::shape::Shape;
 
 /// The opcodes, in rising order.
 #[derive(Clone, Copy)]
@@ -17,11 +17,14 @@ pub struct OpRow {
     pub shape: Shape,
 }
 
-macro_rules! table {
+macro_rules! rows {
     ([$($_argument:tt),*] $($op:literal $name:literal $shape:ident,)*) => {
-        OpTable { rows: [$(OpRow { op: $op, name: $name, shape: Shape::$shape }),*] }
+        [$(OpRow { op: $op, name: $name, shape: Shape::$shape }),*]
     };
 }
 
+/// The rows of the table.
+pub(crate) const ROWS: [OpRow; 118] = op_rows!(rows,);
+
 /// The opcodes that are read, written and run (JVMS 6.5).
-pub const OPS: OpTable<118> = op_rows!(table,);
+pub const OPS: OpTable<118> = OpTable { rows: ROWS };

@@ -2,7 +2,7 @@ pub mod Filling
 pub mod Table
 pub mod Beginning
 pub mod Sizes
-pub mod Offsets
+pub mod Targets
 pub mod Parsing
 pub mod Faulty
 pub mod Codes

@@ -5,7 +5,7 @@ use Rattle.std.specs.Int.{w32}
 use mir.Val.{SFits, to_z, of_z}
 use Rattle.std.proofs.lemmas.Int.{to_z-of_z}
 use Rattle.cf_form.specs.declared.instr.Instr.{Instr}
-use Rattle.cf_form.specs.declared.operands.Shape.{Shape}
+use Rattle.cf_form.specs.declared.shape.Shape.{Shape}
 use Rattle.cf_form.specs.Opcodes.{shape_of}
 use Rattle.cf_form.specs.Instructions.{operands, OperandsFit, bytes_of, FitsBy, Fits}
 use Rattle.cf_instr.proofs.Beginning.{head, bytes_are}

@@ -4,8 +4,8 @@ use Rattle.std.specs.Prelude.{◌&&◌}
 use Rattle.std.proofs.lemmas.Bool.{eqb-true}
 use Rattle.cf_form.specs.declared.op_form.OpForm.{OpForm}
 use Rattle.cf_form.specs.declared.op_form.TheConstants.{FORMS}
-use Rattle.cf_form.specs.declared.operands.Shape.{Shape}
-use Rattle.cf_form.specs.declared.operands.Shape.TheVariants.{Local, Wide}
+use Rattle.cf_form.specs.declared.shape.Shape.{Shape}
+use Rattle.cf_form.specs.declared.shape.Shape.TheVariants.{Local, Wide}
 use Rattle.cf_form.specs.Opcodes.{shape_among, shape_of}
 use Rattle.cf_form.specs.Instructions.{wide_opcode}
 

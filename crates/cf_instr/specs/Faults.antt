@@ -2,10 +2,10 @@
 use Rattle.std.specs.Prelude.{◌≡◌, ◌≢◌, ◌⊎◌, ℕ, ◌≤◌, ◌<◌, pos, ◌+ℤ◌, List, [], ◌∷◌, ◌++◌, length, slice_get, Option, None, Some, Bool, true, false, IsTrue}
 use Rattle.std.specs.List.{flat_map, AllByRecursion}
 use Rattle.cf_form.specs.declared.instr.Instr.{Instr}
-use Rattle.cf_form.specs.declared.operands.Shape.{Shape}
-use Rattle.cf_form.specs.declared.operands.Shape.TheVariants.{Local, Step, Face}
+use Rattle.cf_form.specs.declared.shape.Shape.{Shape}
+use Rattle.cf_form.specs.declared.shape.Shape.TheVariants.{Local, Step, Face}
 use Rattle.cf_form.specs.Opcodes.{shape_of}
-use Rattle.cf_form.specs.Instructions.{bytes_of, Fits, wide_opcode, jumps, place}
+use Rattle.cf_form.specs.Instructions.{bytes_of, Fits, wide_opcode, jumps, offset}
 use Rattle.cf_instr.specs.declared.code_fault.CodeFault.{CodeFault}
 use Rattle.cf_instr.specs.declared.code_fault.CodeKind.{CodeKind}
 use Rattle.cf_instr.specs.declared.code_fault.CodeKind.TheVariants as kinds
@@ -59,7 +59,7 @@ pub record IsAstray (raws : List Instr) (n : ℕ) : Type 0 where
   pub jump : Instr
   pub here : slice_get raws n ≡ Some jump
   pub jumping : IsTrue (jumps jump)
-  pub nowhere : (k : ℕ) → k < length raws → (pos (place raws n) +ℤ jump.a) ≢ pos (place raws k)
+  pub nowhere : (k : ℕ) → k < length raws → (pos (offset raws n) +ℤ jump.a) ≢ pos (offset raws k)
 
 -- the bytes are whole instructions, and the first that jumps astray begins at the byte `at`
 pub record JumpsAstray (bytes : List ℕ) (at : ℕ) : Type 0 where
@@ -67,7 +67,7 @@ pub record JumpsAstray (bytes : List ℕ) (at : ℕ) : Type 0 where
   pub fits : AllByRecursion Fits raws
   pub parts : bytes ≡ flat_map bytes_of raws
   pub n : ℕ
-  pub here : at ≡ place raws n
+  pub here : at ≡ offset raws n
   pub astray : IsAstray raws n
   pub first : (k : ℕ) → k < n → ¬ (IsAstray raws k)
 
@@ -83,6 +83,7 @@ Stops kinds.Memory rest = ⊥
 abbrev pub StopsAt : List ℕ → ℕ → CodeKind → Type 0
 StopsAt bytes at kind = (rest : List ℕ) × Begins bytes at rest × Stops kind rest
 
+-- this is wrong with the bytes, with the instruction that begins at the byte `at`
 abbrev pub FaultAt : List ℕ → ℕ → CodeKind → Type 0
 FaultAt bytes at kinds.Opcode = StopsAt bytes at kinds.Opcode
 FaultAt bytes at kinds.Cut = ((bytes ≡ []) × (at ≡ 0)) ⊎ StopsAt bytes at kinds.Cut

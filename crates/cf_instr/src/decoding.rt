@@ -1,24 +1,24 @@
 //! Bytes to a method's code.
 
-ghost use Rattle.std.specs.Prelude.{◌≡◌, ◌⊎◌, ◌<◌, ◌^◌, List, length, IfOk, IfErr, Ok, Err};
+ghost use Rattle.std.specs.Prelude.{◌≡◌, ◌<◌, ◌^◌, List, length, IfOk, IfErr, MatchResult};
 ghost use Rattle.cf_form.specs.Instructions.{IsCode, code_bytes};
 ghost use Rattle.cf_instr.specs.Faults.{IsFault};
 
 use crate::code_fault::{CodeFault, CodeKind};
+use crate::numbering::numbers_of;
 use crate::raws::raws_of;
-use crate::settling::settled;
+use crate::settling::settle;
 use cf_form::Instr;
-use sqlite_items::Items;
 use std::alloc::Global;
 
 /// The code that the bytes are (JVMS 4.7.3), the offsets of its jumps as numbers of instructions. The fault tells the first
 /// byte of the first instruction that none can be; where all are instructions, of the first that jumps to no instruction.
-pub fn decode(alloc: Global, bytes: &[u8]) -> Result<Items<Instr>, CodeFault>
+pub fn decode(alloc: Global, bytes: &[u8]) -> Result<Vec<Instr>, CodeFault>
     requires { length bytes.now < 2 ^ 31 }
     // What is read is spelled so.
-    ensures found { IfOk result (λ code. IsCode code × (bytes.now ≡ code_bytes code)) }
+    ensures found { IfOk result (λ code. IsCode code.items × (bytes.now ≡ code_bytes code.items)) }
     // What is spelled so is read, unless memory runs out.
-    ensures only { (code : List Instr) → IsCode code → bytes.now ≡ code_bytes code → (result ≡ Ok code) ⊎ (result ≡ Err (record { at = 0; kind = CodeKind.Memory })) }
+    ensures only { (code : List Instr) → IsCode code → bytes.now ≡ code_bytes code → MatchResult result (λ read. read.items ≡ code) (λ fault. fault ≡ record { at = 0; kind = CodeKind.Memory }) }
     // Which fault it is.
     ensures faults { IfErr result (IsFault bytes.now) }
 {
@@ -26,9 +26,9 @@ pub fn decode(alloc: Global, bytes: &[u8]) -> Result<Items<Instr>, CodeFault>
 }
 
 // The code or the fault, each as the bytes have it.
-fn whole(alloc: Global, bytes: &[u8]) -> Result<Items<Instr>, CodeFault>
+fn whole(alloc: Global, bytes: &[u8]) -> Result<Vec<Instr>, CodeFault>
     requires { length bytes.now < 2 ^ 31 }
-    ensures found { IfOk result (λ code. IsCode code × (bytes.now ≡ code_bytes code)) }
+    ensures found { IfOk result (λ code. IsCode code.items × (bytes.now ≡ code_bytes code.items)) }
     ensures faults { IfErr result (IsFault bytes.now) }
 {
     if bytes.is_empty() {
@@ -37,11 +37,15 @@ fn whole(alloc: Global, bytes: &[u8]) -> Result<Items<Instr>, CodeFault>
             kind: CodeKind::Cut,
         });
     }
-    match raws_of(alloc, bytes) {
-        Ok((raws, starts)) => match settled(alloc, &raws, &starts) {
-            Ok(code) => Ok(Items::from_vec(code)),
-            Err(fault) => Err(fault),
-        },
-        Err(fault) => Err(fault),
+    let (mut raws, starts) = raws_of(alloc, bytes)?;
+    let Ok(numbers) = numbers_of(alloc, &starts, bytes.len()) else {
+        return Err(CodeFault::memory());
+    };
+    match settle(&mut raws, &starts, &numbers) {
+        Ok(()) => Ok(raws),
+        Err(at) => Err(CodeFault {
+            at,
+            kind: CodeKind::Jump,
+        }),
     }
 }

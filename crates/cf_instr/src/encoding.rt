@@ -1,12 +1,13 @@
 //! A method's code to bytes.
 
-ghost use Rattle.std.specs.Prelude.{◌≡◌, ◌≤◌, ◌++◌, length, IfOk, OnOk};
-ghost use Rattle.cf_form.specs.Instructions.{IsCode, code_bytes, place};
-ghost use Rattle.cf_instr.specs.Raws.{offset_from, HasTarget, AreLow};
+ghost use Rattle.std.specs.Prelude.{◌≡◌, ◌≤◌, ◌++◌, length, IfOk, OnOk, OnErr};
+ghost use Rattle.cf_form.specs.Instructions.{IsCode, code_bytes, offset};
+ghost use Rattle.cf_instr.specs.Offsets.{AreOffsets};
+ghost use Rattle.cf_instr.specs.Raws.{AreLow, HasTarget, offset_from};
 
-use crate::no_memory::NoMemory;
+use crate::NoMemory;
 use crate::settling::is_jump;
-use crate::starts::places;
+use crate::starts::offsets;
 use crate::writing::put;
 use cf_form::Instr;
 use std::alloc::Global;
@@ -15,39 +16,57 @@ use std::alloc::Global;
 /// two bytes.
 pub fn encode(alloc: Global, instrs: &[Instr]) -> Result<Vec<u8>, NoMemory>
     requires code { IsCode instrs.now }
-    requires short { place instrs.now (length instrs.now) ≤ 65535 }
+    requires short { offset instrs.now (length instrs.now) ≤ 65535 }
     ensures { IfOk result (λ bytes. bytes.items ≡ code_bytes instrs.now) }
 {
-    let mut out = Vec::new(alloc);
-    encode_onto(alloc, &mut out, instrs)?;
-    Ok(out)
+    let offsets = offsets(alloc, instrs)?;
+    encode_at(alloc, instrs, &offsets)
 }
 
-/// Appends the bytes of a code (JVMS 4.7.3), its targets' numbers as offsets. Without memory, a part of them.
-pub fn encode_onto(alloc: Global, out: &mut Vec<u8>, instrs: &[Instr]) -> Result<(), NoMemory>
+/// Appends the bytes of a code (JVMS 4.7.3), whose offsets are these, or nothing where memory runs out.
+pub fn encode_onto(
+    alloc: Global,
+    out: &mut Vec<u8>,
+    instrs: &[Instr],
+    offsets: &[u32],
+) -> Result<(), NoMemory>
     requires code { IsCode instrs.now }
-    requires short { place instrs.now (length instrs.now) ≤ 65535 }
-    ensures { OnOk result (out.new.items ≡ out.old.items ++ code_bytes instrs.now) }
+    requires short { offset instrs.now (length instrs.now) ≤ 65535 }
+    requires offsets { AreOffsets instrs.now offsets.now }
+    ensures ok { OnOk result (out.new.items ≡ out.old.items ++ code_bytes instrs.now) }
+    ensures err { OnErr result (out.new.items ≡ out.old.items) }
 {
-    let places = places(alloc, instrs)?;
-    for (n, instr) in instrs.iter().enumerate() {
-        let raw = with_offset(*instr, places[n], &places);
-        put(out, raw)?;
-    }
+    let bytes = encode_at(alloc, instrs, offsets)?;
+    out.extend_from_slice(&bytes)?;
     Ok(())
 }
 
+// The bytes of a code whose offsets are these.
+fn encode_at(alloc: Global, instrs: &[Instr], offsets: &[u32]) -> Result<Vec<u8>, NoMemory>
+    requires code { IsCode instrs.now }
+    requires short { offset instrs.now (length instrs.now) ≤ 65535 }
+    requires offsets { AreOffsets instrs.now offsets.now }
+    ensures { IfOk result (λ bytes. bytes.items ≡ code_bytes instrs.now) }
+{
+    let mut out = Vec::with_capacity(alloc, offsets[instrs.len()] as usize)?;
+    for (n, instr) in instrs.iter().enumerate() {
+        let raw = with_offset(*instr, offsets[n], offsets);
+        put(&mut out, raw)?;
+    }
+    Ok(out)
+}
+
 // The instruction of the byte `at`, its jump with its offset.
-fn with_offset(instr: Instr, at: u32, places: &[u32]) -> Instr
-    requires target { HasTarget (length places.now) instr }
-    requires low { AreLow places.now }
+fn with_offset(instr: Instr, at: u32, offsets: &[u32]) -> Instr
+    requires target { HasTarget (length offsets.now) instr }
+    requires low { AreLow offsets.now }
     requires here { at ≤ 65535 }
-    ensures { result ≡ offset_from places.now at instr }
+    ensures { result ≡ offset_from offsets.now at instr }
 {
     if !is_jump(instr.op) {
         return instr;
     }
-    let to = places[instr.a as usize];
+    let to = offsets[instr.a as usize];
     Instr {
         op: instr.op,
         wide: instr.wide,

@@ -2,7 +2,7 @@
 
 ghost use Rattle.std.specs.Prelude.{◌≡◌, ◌≢◌, ◌<◌, ◌≤◌, ℕ, List, length};
 ghost use Rattle.std.specs.List.{AllByRecursion};
-ghost use Rattle.cf_form.specs.Instructions.{IsCode, Fits, size, place, code_bytes};
+ghost use Rattle.cf_form.specs.Instructions.{IsCode, Fits, size, offset, code_bytes};
 ghost use Rattle.cf_instr.specs.Faults.{IsFault};
 
 use crate::code_fault::{CodeFault, CodeKind};
@@ -16,8 +16,8 @@ pub fn coding()
 {}
 
 /// An instruction takes one to six bytes, each begins behind the one before it, and the code is as long as its bytes.
-pub fn placing()
+pub fn rising()
     ensures size { (i : Instr) → Fits i → (1 ≤ size i) × (size i ≤ 6) }
-    ensures rises { (code : List Instr) (j k : ℕ) → IsCode code → j < k → k ≤ length code → place code j < place code k }
-    ensures long { (code : List Instr) → length (code_bytes code) ≡ place code (length code) }
+    ensures rises { (code : List Instr) (j k : ℕ) → IsCode code → j < k → k ≤ length code → offset code j < offset code k }
+    ensures long { (code : List Instr) → length (code_bytes code) ≡ offset code (length code) }
 {}

@@ -5,6 +5,7 @@ ghost use Rattle.std.specs.Int.{w8, w16, w32};
 ghost use Rattle.cf_form.specs.Instructions.{one, two, four, Is1, Is2};
 
 /// A byte, and what is behind it.
+#[inline(always)]
 pub fn byte(bytes: &[u8]) -> Option<(i32, &[u8])>
     ensures { MatchOption result (length bytes.now < 1) (λ x. Is1 x.0 × (bytes.now ≡ one x.0 ++ x.1.now)) }
 {
@@ -15,6 +16,7 @@ pub fn byte(bytes: &[u8]) -> Option<(i32, &[u8])>
 }
 
 /// A signed byte, and what is behind it.
+#[inline(always)]
 pub fn signed_byte(bytes: &[u8]) -> Option<(i32, &[u8])>
     ensures { MatchOption result (length bytes.now < 1) (λ x. FitsSigned w8 x.0 × (bytes.now ≡ one x.0 ++ x.1.now)) }
 {
@@ -25,6 +27,7 @@ pub fn signed_byte(bytes: &[u8]) -> Option<(i32, &[u8])>
 }
 
 /// Two bytes, and what is behind them.
+#[inline(always)]
 pub fn short(bytes: &[u8]) -> Option<(i32, &[u8])>
     ensures { MatchOption result (length bytes.now < 2) (λ x. Is2 x.0 × (bytes.now ≡ two x.0 ++ x.1.now)) }
 {
@@ -35,6 +38,7 @@ pub fn short(bytes: &[u8]) -> Option<(i32, &[u8])>
 }
 
 /// Two signed bytes, and what is behind them.
+#[inline(always)]
 pub fn signed_short(bytes: &[u8]) -> Option<(i32, &[u8])>
     ensures { MatchOption result (length bytes.now < 2) (λ x. FitsSigned w16 x.0 × (bytes.now ≡ two x.0 ++ x.1.now)) }
 {
@@ -45,6 +49,7 @@ pub fn signed_short(bytes: &[u8]) -> Option<(i32, &[u8])>
 }
 
 /// Four signed bytes, and what is behind them.
+#[inline(always)]
 pub fn signed_int(bytes: &[u8]) -> Option<(i32, &[u8])>
     ensures { MatchOption result (length bytes.now < 4) (λ x. FitsSigned w32 x.0 × (bytes.now ≡ four x.0 ++ x.1.now)) }
 {

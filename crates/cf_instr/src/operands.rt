@@ -9,14 +9,15 @@ use crate::numbers::{byte, short, signed_byte, signed_int, signed_short};
 use cf_form::Shape;
 
 /// The operands of this shape, and what is behind them.
+#[inline(always)]
 pub fn plain(shape: Shape, bytes: &[u8]) -> Result<(i32, i32, &[u8]), CodeKind>
     requires { shape ≢ Shape.Wide }
     ensures { MatchResult result (λ x. Reads shape false bytes.now x.0 x.1 x.2.now) (Misreads shape false bytes.now) }
 {
     match shape {
         Shape::Plain | Shape::Wide => Ok((0, 0, bytes)),
-        Shape::Signed1 => alone(signed_byte(bytes)),
-        Shape::Signed2 | Shape::Jump2 => alone(signed_short(bytes)),
+        Shape::S1 => alone(signed_byte(bytes)),
+        Shape::S2 | Shape::Jump2 => alone(signed_short(bytes)),
         Shape::Pool1 | Shape::Local => alone(byte(bytes)),
         Shape::Pool2 => alone(short(bytes)),
         Shape::Step => step(bytes),
@@ -26,6 +27,7 @@ pub fn plain(shape: Shape, bytes: &[u8]) -> Result<(i32, i32, &[u8]), CodeKind>
 }
 
 /// The operands of this shape after `wide`, and what is behind them.
+#[inline(always)]
 pub fn widened(shape: Shape, bytes: &[u8]) -> Result<(i32, i32, &[u8]), CodeKind>
     requires { IsTrue (widens (Some shape)) }
     ensures { MatchResult result (λ x. Reads shape true bytes.now x.0 x.1 x.2.now) (Misreads shape true bytes.now) }
@@ -37,6 +39,7 @@ pub fn widened(shape: Shape, bytes: &[u8]) -> Result<(i32, i32, &[u8]), CodeKind
 }
 
 // One operand, or the bytes end before it does.
+#[inline(always)]
 fn alone(operand: Option<(i32, &[u8])>) -> Result<(i32, i32, &[u8]), CodeKind>
     ensures { MatchOption operand.entry (result ≡ Err CodeKind.Cut) (λ x. MatchResult result (λ y. (y.0 ≡ x.0) × (y.1 ≡ pos 0) × (y.2 ≡ x.1)) (λ _. ⊥)) }
 {
@@ -47,6 +50,7 @@ fn alone(operand: Option<(i32, &[u8])>) -> Result<(i32, i32, &[u8]), CodeKind>
 }
 
 // A local and an amount.
+#[inline(always)]
 fn step(bytes: &[u8]) -> Result<(i32, i32, &[u8]), CodeKind>
     ensures { MatchResult result (λ x. Reads Shape.Step false bytes.now x.0 x.1 x.2.now) (Misreads Shape.Step false bytes.now) }
 {
@@ -60,6 +64,7 @@ fn step(bytes: &[u8]) -> Result<(i32, i32, &[u8]), CodeKind>
 }
 
 // A local and an amount of twice the width.
+#[inline(always)]
 fn wide_step(bytes: &[u8]) -> Result<(i32, i32, &[u8]), CodeKind>
     ensures { MatchResult result (λ x. Reads Shape.Step true bytes.now x.0 x.1 x.2.now) (Misreads Shape.Step true bytes.now) }
 {
@@ -73,6 +78,7 @@ fn wide_step(bytes: &[u8]) -> Result<(i32, i32, &[u8]), CodeKind>
 }
 
 // An index of the constant pool, a count, and a zero byte.
+#[inline(always)]
 fn face(bytes: &[u8]) -> Result<(i32, i32, &[u8]), CodeKind>
     ensures { MatchResult result (λ x. Reads Shape.Face false bytes.now x.0 x.1 x.2.now) (Misreads Shape.Face false bytes.now) }
 {

@@ -4,19 +4,24 @@ ghost use Rattle.std.specs.Prelude.{◌≡◌, ◌<◌, ◌^◌, ◌++◌, ◌�
 ghost use Rattle.cf_instr.specs.Faults.{FaultAt};
 ghost use Rattle.cf_instr.specs.Raws.{AreRaws};
 
+use crate::NoMemory;
 use crate::code_fault::{CodeFault, CodeKind};
-use crate::no_memory::NoMemory;
 use crate::reading::front_of;
 use cf_form::Instr;
 use std::alloc::Global;
 
 /// The instructions that the bytes are, with offsets, and the first byte of each.
+#[inline(never)]
 pub fn raws_of(alloc: Global, bytes: &[u8]) -> Result<(Vec<Instr>, Vec<u32>), CodeFault>
     requires { length bytes.now < 2 ^ 31 }
     ensures { MatchResult result (λ x. AreRaws bytes.now x.0.items x.1.items []) (λ fault. FaultAt bytes.now fault.at fault.kind) }
 {
-    let mut raws = Vec::new(alloc);
-    let mut starts = Vec::new(alloc);
+    let Ok(mut raws) = Vec::with_capacity(alloc, bytes.len()) else {
+        return Err(CodeFault::memory());
+    };
+    let Ok(mut starts) = Vec::with_capacity(alloc, bytes.len()) else {
+        return Err(CodeFault::memory());
+    };
     let mut rest = bytes;
     while !rest.is_empty() {
         let at = (bytes.len() - rest.len()) as u32;

@@ -6,9 +6,10 @@ ghost use Rattle.cf_instr.specs.Faults.{Stops};
 
 use crate::code_fault::CodeKind;
 use crate::operands::{plain, widened};
-use cf_form::{Instr, Shape, shape};
+use cf_form::{Instr, Shape, shape_of};
 
 /// The instruction that begins the bytes, and what is behind it. A jump has its offset.
+#[inline(always)]
 pub fn front_of(bytes: &[u8]) -> Result<(Instr, &[u8]), CodeKind>
     requires { 0 < length bytes.now }
     ensures { MatchResult result (λ x. Fits x.0 × (bytes.now ≡ bytes_of x.0 ++ x.1.now)) (λ kind. Stops kind bytes.now) }
@@ -17,10 +18,11 @@ pub fn front_of(bytes: &[u8]) -> Result<(Instr, &[u8]), CodeKind>
 }
 
 // The instruction of this opcode with these bytes behind it, and what is behind the instruction.
+#[inline(always)]
 fn instr_of(op: u8, bytes: &[u8]) -> Result<(Instr, &[u8]), CodeKind>
     ensures { MatchResult result (λ x. Fits x.0 × (op ∷ bytes.now ≡ bytes_of x.0 ++ x.1.now)) (λ kind. Stops kind (op ∷ bytes.now)) }
 {
-    match shape(op) {
+    match shape_of(op) {
         None => Err(CodeKind::Opcode),
         Some(Shape::Wide) => wide_instr_of(bytes),
         Some(shape) => with_operands(op, false, plain(shape, bytes)),
@@ -28,6 +30,7 @@ fn instr_of(op: u8, bytes: &[u8]) -> Result<(Instr, &[u8]), CodeKind>
 }
 
 // The instruction that `wide` begins, and what is behind it.
+#[inline(always)]
 fn wide_instr_of(bytes: &[u8]) -> Result<(Instr, &[u8]), CodeKind>
     ensures { MatchResult result (λ x. Fits x.0 × (wide_opcode ∷ bytes.now ≡ bytes_of x.0 ++ x.1.now)) (λ kind. Stops kind (wide_opcode ∷ bytes.now)) }
 {
@@ -38,10 +41,11 @@ fn wide_instr_of(bytes: &[u8]) -> Result<(Instr, &[u8]), CodeKind>
 }
 
 // The instruction of this opcode behind `wide`, and what is behind it.
+#[inline(always)]
 fn widened_of(op: u8, bytes: &[u8]) -> Result<(Instr, &[u8]), CodeKind>
     ensures { MatchResult result (λ x. Fits x.0 × (wide_opcode ∷ op ∷ bytes.now ≡ bytes_of x.0 ++ x.1.now)) (λ kind. Stops kind (wide_opcode ∷ op ∷ bytes.now)) }
 {
-    match shape(op) {
+    match shape_of(op) {
         Some(Shape::Local) => with_operands(op, true, widened(Shape::Local, bytes)),
         Some(Shape::Step) => with_operands(op, true, widened(Shape::Step, bytes)),
         _ => Err(CodeKind::Opcode),
@@ -49,6 +53,7 @@ fn widened_of(op: u8, bytes: &[u8]) -> Result<(Instr, &[u8]), CodeKind>
 }
 
 // The operands as those of this opcode.
+#[inline(always)]
 fn with_operands(
     op: u8,
     wide: bool,

@@ -1,58 +1,52 @@
 //! The targets of jumps, from bytes to numbers of instructions.
 
-ghost use Rattle.std.specs.Prelude.{◌≡◌, ◌≢◌, ◌<◌, ◌^◌, ℕ, ◌+ℤ◌, pos, length, slice_index, MatchOption, MatchResult, true};
+ghost use Rattle.std.specs.Prelude.{◌≡◌, ◌≢◌, ◌<◌, ◌≤◌, ◌^◌, ℕ, length, slice_index, MatchOption, MatchResult, true};
 ghost use Rattle.cf_form.specs.Opcodes.{shape_of};
-ghost use Rattle.cf_form.specs.Instructions.{jumps_by, place};
-ghost use Rattle.cf_instr.specs.Raws.{AreStarts, IsRising, LeadsNowhere, LeadsTo, Settles, AreSettled, IsStrayFault};
+ghost use Rattle.cf_form.specs.Instructions.{jumps_by};
+ghost use Rattle.cf_instr.specs.Offsets.{IsNotFalling};
+ghost use Rattle.cf_instr.specs.Raws.{AreStarts, AreNumbers, LeadsNowhere, LeadsTo, Settles, AreSettled, IsFirstAstray};
 
-use crate::code_fault::{CodeFault, CodeKind};
-use cf_form::{Instr, Shape, shape};
-use std::alloc::Global;
+use cf_form::{Instr, Shape, shape_of};
 
 /// Whether this opcode is a jump's.
+#[inline(always)]
 pub fn is_jump(op: u8) -> bool
     ensures { result ≡ jumps_by (shape_of op) }
 {
-    matches!(shape(op), Some(Shape::Jump2 | Shape::Jump4))
+    matches!(shape_of(op), Some(Shape::Jump2 | Shape::Jump4))
 }
 
-/// The instructions with the numbers of targets in place of offsets. `Jump` where the first jump goes astray.
-pub fn settled(alloc: Global, raws: &[Instr], starts: &[u32]) -> Result<Vec<Instr>, CodeFault>
-    requires starts { AreStarts raws.now starts.now }
-    requires rising { IsRising starts.now }
-    requires many { length raws.now < 2 ^ 31 }
-    requires low { (k : ℕ) → k < length starts.now → slice_index starts.now k < 2 ^ 31 }
-    ensures { MatchResult result (λ code. AreSettled raws.now (length raws.now) code.items) (λ fault. IsStrayFault raws.now fault.at fault.kind) }
+/// Puts the numbers of targets in place of the offsets of these instructions, which begin there. The fault is the byte of
+/// the first jump that goes astray.
+#[inline(never)]
+pub fn settle(raws: &mut [Instr], starts: &[u32], numbers: &[u32]) -> Result<(), u32>
+    requires starts { AreStarts raws.old starts.now }
+    requires many { length raws.old < 2 ^ 31 }
+    requires numbers { AreNumbers starts.now (length starts.now) numbers.now }
+    requires low { (k : ℕ) → k < length starts.now → slice_index starts.now k < length numbers.now }
+    ensures { MatchResult result (λ _. AreSettled raws.old (length raws.old) raws.new) (IsFirstAstray raws.old) }
 {
-    let Ok(mut code) = Vec::with_capacity(alloc, raws.len()) else {
-        return Err(CodeFault::memory());
-    };
-    for (n, raw) in raws.iter().enumerate() {
+    for n in 0..raws.len() {
         let at = starts[n];
-        let Some(instr) = settled_one(*raw, at, starts) else {
-            return Err(CodeFault {
-                at,
-                kind: CodeKind::Jump,
-            });
+        let Some(instr) = settled(raws[n], at, starts, numbers) else {
+            return Err(at);
         };
-        if code.push(instr).is_err() {
-            return Err(CodeFault::memory());
-        }
+        raws[n] = instr;
     }
-    Ok(code)
+    Ok(())
 }
 
 // The instruction of the byte `at`, its jump with the number of its target. None where it goes astray.
-fn settled_one(raw: Instr, at: u32, starts: &[u32]) -> Option<Instr>
+fn settled(raw: Instr, at: u32, starts: &[u32], numbers: &[u32]) -> Option<Instr>
     requires many { length starts.now < 2 ^ 31 }
-    requires rising { IsRising starts.now }
-    requires low { at < 2 ^ 31 }
+    requires numbers { AreNumbers starts.now (length starts.now) numbers.now }
+    requires low { (k : ℕ) → k < length starts.now → slice_index starts.now k < length numbers.now }
     ensures { MatchOption result ((jumps_by (shape_of raw.op) ≡ true) × LeadsNowhere starts.now at raw.a) (Settles starts.now at raw) }
 {
     if !is_jump(raw.op) {
         return Some(raw);
     }
-    match target(at, raw.a, starts) {
+    match target(at, raw.a, starts, numbers) {
         Some(m) => Some(Instr {
             op: raw.op,
             wide: raw.wide,
@@ -64,23 +58,25 @@ fn settled_one(raw: Instr, at: u32, starts: &[u32]) -> Option<Instr>
 }
 
 // The number of the instruction to which an offset from the byte `at` leads.
-fn target(at: u32, offset: i32, starts: &[u32]) -> Option<u32>
-    requires many { length starts.now < 2 ^ 31 }
-    requires rising { IsRising starts.now }
-    requires low { at < 2 ^ 31 }
+fn target(at: u32, offset: i32, starts: &[u32], numbers: &[u32]) -> Option<u32>
+    requires numbers { AreNumbers starts.now (length starts.now) numbers.now }
+    requires low { (k : ℕ) → k < length starts.now → slice_index starts.now k < length numbers.now }
     ensures { MatchOption result (LeadsNowhere starts.now at offset) (LeadsTo starts.now at offset) }
 {
-    let to = at as i64 + offset as i64;
+    let to = i64::from(at) + i64::from(offset);
     if to < 0 {
         return None;
     }
-    number_at(starts, to as u32)
+    match numbers.get(to as usize) {
+        Some(m) if (*m as usize) < starts.len() => Some(*m),
+        _ => None,
+    }
 }
 
 /// The number of the instruction that begins at this byte, by the first bytes of all.
 pub fn number_at(starts: &[u32], at: u32) -> Option<u32>
-    requires many { length starts.now < 2 ^ 31 }
-    requires rising { IsRising starts.now }
+    requires many { length starts.now ≤ 2 ^ 31 }
+    requires not_falling { IsNotFalling starts.now }
     ensures { MatchOption result ((k : ℕ) → k < length starts.now → slice_index starts.now k ≢ at) (λ m. (m < length starts.now) × (slice_index starts.now m ≡ at)) }
 {
     match starts.binary_search(&at) {

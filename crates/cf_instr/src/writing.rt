@@ -4,8 +4,8 @@ ghost use Rattle.std.specs.Prelude.{◌≡◌, ◌++◌, OnOk, FitsSigned, true,
 ghost use Rattle.std.specs.Int.{w8, w16, w32};
 ghost use Rattle.cf_form.specs.Instructions.{one, two, four, Is1, Is2, operands, OperandsFit, bytes_of, Fits, wide_opcode};
 
-use crate::no_memory::NoMemory;
-use cf_form::{Instr, Shape, shape};
+use crate::NoMemory;
+use cf_form::{Instr, Shape, shape_of};
 
 /// Appends the bytes of an instruction, which has its offset where it jumps.
 pub fn put(out: &mut Vec<u8>, raw: Instr) -> Result<(), NoMemory>
@@ -13,7 +13,7 @@ pub fn put(out: &mut Vec<u8>, raw: Instr) -> Result<(), NoMemory>
     ensures { OnOk result (out.new.items ≡ out.old.items ++ bytes_of raw) }
 {
     put_opcode(out, raw.op, raw.wide)?;
-    match shape(raw.op) {
+    match shape_of(raw.op) {
         Some(shape) => put_operands(out, shape, raw.wide, raw.a, raw.b),
         None => Ok(()),
     }
@@ -37,8 +37,8 @@ fn put_operands(out: &mut Vec<u8>, shape: Shape, wide: bool, a: i32, b: i32) -> 
 {
     match shape {
         Shape::Plain | Shape::Wide => Ok(()),
-        Shape::Signed1 => put_signed_byte(out, a),
-        Shape::Signed2 | Shape::Jump2 => put_signed_short(out, a),
+        Shape::S1 => put_signed_byte(out, a),
+        Shape::S2 | Shape::Jump2 => put_signed_short(out, a),
         Shape::Pool1 => put_byte(out, a),
         Shape::Pool2 => put_short(out, a),
         Shape::Local => if wide {

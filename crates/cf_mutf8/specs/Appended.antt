@@ -1,4 +1,4 @@
--- What a writer that stopped leaves.
+-- For proofs only: what a writer that stopped leaves.
 use Rattle.std.specs.Prelude.{◌≡◌, List, ◌++◌, ℕ}
 
 -- something was appended

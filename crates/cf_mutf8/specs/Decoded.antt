@@ -1,8 +1,7 @@
 -- The text that bytes of modified UTF-8 spell, if they spell one (JVMS 4.4.7).
 use Rattle.std.specs.Prelude.{ℕ, zero, suc, ◌+◌, ◌-◌, ◌*◌, ◌&&◌, List, [], ◌∷◌, length, take, drop, Option, None, Some, option_map, Bool, nat_lt, nat_le, if◌then◌else◌, slice_index}
-use Rattle.std.specs.Option.{option_and_then}
 use Rattle.std.specs.Str.{all_scalars, bytes_eq}
-use Rattle.cf_mutf8.specs.ModifiedUtf8.{unit_bytes, character_bytes}
+use Rattle.cf_mutf8.specs.ModifiedUtf8.{character_bytes}
 
 -- the code unit that these three bytes would be the bytes of, as the first one tells
 abbrev pub unit_of : ℕ → ℕ → ℕ → ℕ
@@ -10,6 +9,7 @@ unit_of a b c = if nat_lt a 0x80 then a
     else (if nat_lt a 0xE0 then (a - 0xC0) * 0x40 + (b - 0x80)
     else (a - 0xE0) * 0x1000 + (b - 0x80) * 0x40 + (c - 0x80))
 
+-- the code unit that these bytes begin with, if any does
 abbrev pub first_unit : List ℕ → ℕ
 first_unit bytes = unit_of (slice_index bytes 0) (slice_index bytes 1) (slice_index bytes 2)
 
@@ -18,6 +18,7 @@ abbrev pub character_of : ℕ → List ℕ → ℕ
 character_of unit after = if nat_le 0xD800 unit && nat_lt unit 0xDC00
     then 0x10000 + (unit - 0xD800) * 0x400 + (first_unit after - 0xDC00) else unit
 
+-- the character that these bytes begin with, if any does
 abbrev pub first_character : List ℕ → ℕ
 first_character bytes = character_of (first_unit bytes) (drop 3 bytes)
 

@@ -1,4 +1,4 @@
--- How far a reader has come, and why it stops.
+-- For proofs only: how far a reader has come, and why it stops.
 use Rattle.std.specs.Prelude.{◌≡◌, ℕ, List, ◌++◌, length, drop, ◌+◌}
 use Rattle.cf_mutf8.specs.ModifiedUtf8.{encoded, IsText, Spells, IsBadUnitAt, character_bytes}
 use Rattle.std.specs.Char.{IsScalar}

@@ -1,4 +1,4 @@
--- The length of modified UTF-8, counted on UTF-8.
+-- For proofs only: the length of modified UTF-8, counted on UTF-8.
 use Rattle.std.specs.Prelude.{ℕ, nat_lt, ◌==◌, if◌then◌else◌}
 
 -- a byte of UTF-8 counts one; 0 counts two; the first of a character past U+FFFF three, since its four become six

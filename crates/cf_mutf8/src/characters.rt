@@ -6,8 +6,8 @@ ghost use Rattle.cf_mutf8.specs.ModifiedUtf8.{unit_bytes, units_of, character_by
 ghost use Rattle.cf_mutf8.specs.Reading.{StandsAt};
 ghost use Rattle.cf_mutf8.specs.Appended.{IsExtended};
 
+use crate::NoMemory;
 use crate::code_units::{push_unit, unit_at};
-use crate::no_memory::NoMemory;
 
 /// A character and how many bytes it takes.
 #[derive(Clone, Copy)]
@@ -35,7 +35,7 @@ pub(crate) fn character_at(bytes: &[u8], at: usize) -> Option<Character>
 
 // The character of the surrogate `high`, which stands at `at`, and of the unit behind it.
 fn pair_at(bytes: &[u8], at: usize, high: u16) -> Option<Character>
-    requires place { at < 2 ^ 32 }
+    requires limit { at < 2 ^ 32 }
     requires surrogate { OutOfScalarRange high }
     requires first { drop at bytes.now ≡ unit_bytes high ++ drop (at + 3) bytes.now }
     ensures { MatchOption result (NoCharacterBegins (drop at bytes.now)) (λ c. StandsAt bytes.now at c.value c.size) }

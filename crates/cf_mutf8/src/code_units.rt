@@ -4,7 +4,7 @@ ghost use Rattle.std.specs.Prelude.{◌≡◌, ◌≢◌, ◌++◌, ◌+◌, ◌
 ghost use Rattle.std.specs.Int.{IsInRange};
 ghost use Rattle.cf_mutf8.specs.ModifiedUtf8.{unit_bytes};
 
-use crate::no_memory::NoMemory;
+use crate::NoMemory;
 
 /// A code unit and how many bytes it takes.
 #[derive(Clone, Copy)]
@@ -78,6 +78,7 @@ fn three_bytes(first: u8, second: u8, third: u8) -> Option<u16>
     if 0x800 <= code { Some(code) } else { None }
 }
 
+// Whether a byte may stand behind the first of a unit.
 fn is_continuation(byte: u8) -> bool
     ensures { IsTrue result ↔ IsInRange 0x80 0xBF byte }
 {

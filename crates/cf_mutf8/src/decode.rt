@@ -30,7 +30,7 @@ pub fn get(alloc: Global, bytes: &[u8]) -> Result<String, Utf8Fault>
     Ok(text)
 }
 
-// Appends what stands at `at`, a run of plain bytes or one character, and gives the place behind it.
+// Appends what stands at `at`, a run of plain bytes or one character, and gives the offset behind it.
 fn push_next(bytes: &[u8], at: usize, text: &mut String) -> Result<usize, Utf8Fault>
     requires limit { length bytes.now < 2 ^ 32 }
     requires within { at < length bytes.now }

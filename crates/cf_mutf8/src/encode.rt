@@ -6,8 +6,8 @@ ghost use Rattle.std.specs.Str.{chars};
 ghost use Rattle.cf_mutf8.specs.ModifiedUtf8.{encoded};
 ghost use Rattle.cf_mutf8.specs.Appended.{IsExtended};
 
+use crate::NoMemory;
 use crate::characters::push_character;
-use crate::no_memory::NoMemory;
 use std::alloc::Global;
 
 /// The modified UTF-8 of a text (JVMS 4.4.7).

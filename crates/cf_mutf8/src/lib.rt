@@ -6,7 +6,6 @@ mod code_units;
 mod decode;
 mod encode;
 mod laws;
-mod no_memory;
 mod sizes;
 #[cfg(test)]
 mod tests;
@@ -15,6 +14,6 @@ mod utf8_fault;
 pub use decode::get;
 pub use encode::{put, put_onto};
 pub use laws::{decoding, encoding, wrong_units};
-pub use no_memory::NoMemory;
 pub use sizes::length;
+pub use sl_base::NoMemory;
 pub use utf8_fault::Utf8Fault;

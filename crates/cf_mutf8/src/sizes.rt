@@ -11,13 +11,13 @@ pub fn length(text: &str) -> u64
 {
     let mut count = 0;
     for byte in text.as_bytes() {
-        count += share_of(*byte);
+        count += share(*byte);
     }
     count
 }
 
 // How many bytes stand for this byte of UTF-8.
-fn share_of(byte: u8) -> u64
+fn share(byte: u8) -> u64
     ensures { result ≡ share byte }
 {
     match byte {

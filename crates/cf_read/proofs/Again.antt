@@ -1,24 +1,25 @@
 -- What is spelled so is read: numbers, constants and the pool.
 use Rattle.std.proofs.Common.{◌≡◌, refl, ap, ◌∙◌, ℕ, ◌+◌, ◌-◌, ◌^◌, ◌<◌, ◌≤◌, ◌⊎◌, inl, inr, List, [], ◌∷◌, ◌++◌, length, drop, Result, Ok, Bool, true, false, append_assoc, length-append, arith, rules}
-use Rattle.std.specs.Prelude.{ℤ, ◌==◌, ◌&&◌, ◌||◌, nat_le, not, IsTrue, FitsSigned}
+use Rattle.std.specs.Prelude.{ℤ, ◌==◌, ◌&&◌, ◌||◌, not, IsTrue, FitsSigned}
+use Rattle.cf_form.specs.ClassFiles.{is_version}
 use Rattle.std.specs.List.{flat_map, AllByRecursion}
 use Rattle.std.specs.Int.{w32, w64, to_be_bytes, cast_unsigned}
-use Rattle.std.proofs.lemmas.Bool.{and_from, and_parts, le-leb, eqb-true}
+use Rattle.std.proofs.lemmas.Bool.{and_parts, eqb-true}
 use Rattle.std.proofs.lemmas.Int.{to_z-of_z, ints}
 use Rattle.std.proofs.lemmas.List.{drop_at}
 use Rattle.std.proofs.lemmas.Nat.{from_be_bytes-to_be_bytes_4, from_be_bytes-to_be_bytes_8}
 use Rattle.cf_mutf8.specs.ModifiedUtf8.{encoded, IsText}
 use Rattle.cf_mutf8.proofs.FirstCharacters.{decoded_iff}
-use Rattle.cf_form.specs.Pool.{u2, u4, Fits2, constant_bytes, ConstantFits, is_of, places, pool_of, names, refers_well}
+use Rattle.cf_form.specs.Pool.{u2, u4, Fits2, constant_bytes, ConstantFits, is_of, entries_of, pool_of, names, refers_well}
 use Rattle.cf_form.specs.declared.constant.Const.{Const}
 use Rattle.cf_form.specs.declared.constant.Const.TheVariants.{Utf8, Int, Float, Long, Double, Class, Text, Field, Method, Interface, NameType, Rest}
 use Rattle.cf_form.specs.declared.kind.Kind.TheVariants as kind
 use Rattle.cf_read.specs.declared.fault.Fault.{Fault}
 use Rattle.cf_read.specs.declared.file_fault.FileKind.{FileKind}
 use Rattle.cf_read.specs.declared.file_fault.FileKind.TheVariants as fault
-use Rattle.cf_read.specs.Reading.{Read, ◌>>=◌, demand, some_at, u1_at, u2_at, u4_at, u8_at, magic_at, version_at, text_or, text_constant_at, indexed_at, two_at, paired_at, int_at, float_at, long_at, double_at, tagged_at, constant_at, places_at, pool_at, index_at, indexes_at, references_at, all_references_at}
-use Rattle.cf_read.proofs.Loops.{with_front, count_of, places_more}
-use Rattle.cf_read.proofs.TakesPool.{some_again, u2_again, index_again, indexes_again, places_refer}
+use Rattle.cf_read.specs.Reading.{Read, ◌>>=◌, demand, some_at, u1_at, u2_at, u4_at, u8_at, magic_at, version_at, text_or, text_constant_at, indexed_at, two_at, paired_at, int_at, float_at, long_at, double_at, tagged_at, constant_at, entries_at, pool_at, index_at, indexes_at, references_at, all_references_at}
+use Rattle.cf_read.proofs.Loops.{with_front, count_of, entries_more}
+use Rattle.cf_read.proofs.TakesPool.{some_again, u2_again, index_again, indexes_again, entries_refer}
 
 -- a step that is known
 pub bind_at : {A B : Type 0} (r : Result A Fault) (x : A) (g : A → Result B Fault) (y : Result B Fault) → r ≡ Ok x → g x ≡ y → (r >>= g) ≡ y
@@ -42,14 +43,14 @@ pub magic_again : (rest : List ℕ) → magic_at (0xCA ∷ 0xFE ∷ 0xBA ∷ 0xB
 unfolding magic_at
 magic_again rest = bind_at (u4_at (u4 0xCAFEBABE ++ rest)) (0xCAFEBABE, rest) _ (Ok (tt, rest)) (u4_again 0xCAFEBABE rest (omega arith)) refl
 
-pub version_again : (minor major : ℕ) (rest : List ℕ) → Fits2 minor → 45 ≤ major → major ≤ 49
+pub version_again : (minor major : ℕ) (rest : List ℕ) → Fits2 minor → Fits2 major → IsTrue (is_version major)
     → version_at (u2 minor ++ (u2 major ++ rest)) ≡ Ok ((minor, major), rest)
 unfolding version_at
-version_again minor major rest l o n =
+version_again minor major rest l m v =
     let y : Read (ℕ × ℕ) = Ok ((minor, major), rest) in
     bind_at (u2_at (u2 minor ++ (u2 major ++ rest))) (minor, u2 major ++ rest) _ y (u2_again minor (u2 major ++ rest) l)
-    (bind_at (u2_at (u2 major ++ rest)) (major, rest) _ y (u2_again major rest (omega arith))
-    (demand_at (nat_le 45 major && nat_le major 49) fault.Version (u2 major ++ rest) _ y (and_from (nat_le 45 major) (nat_le major 49) (le-leb 45 major o) (le-leb major 49 n)) refl))
+    (bind_at (u2_at (u2 major ++ rest)) (major, rest) _ y (u2_again major rest m)
+    (demand_at (is_version major) fault.Version (u2 major ++ rest) _ y v refl))
 
 -- ---- constants
 
@@ -131,32 +132,32 @@ constant_again last Rest rest f h = absurd f
 last_alone : (c : Const) (cs : List Const) → (length (pool_of (c ∷ cs)) == 1) ≡ true → is_of kind.Double c ≡ false
 last_alone c cs e = by (count_of c)
   where
-    by : ((is_of kind.Double c ≡ true) × (length (places c) ≡ 2)) ⊎ ((is_of kind.Double c ≡ false) × (length (places c) ≡ 1)) → is_of kind.Double c ≡ false
-    by (inl w) = absurd (omega (arith, eqb-true (length (pool_of (c ∷ cs))) 1 e, length-append (places c) (pool_of cs), w.1))
+    by : ((is_of kind.Double c ≡ true) × (length (entries_of c) ≡ 2)) ⊎ ((is_of kind.Double c ≡ false) × (length (entries_of c) ≡ 1)) → is_of kind.Double c ≡ false
+    by (inl w) = absurd (omega (arith, eqb-true (length (pool_of (c ∷ cs))) 1 e, length-append (entries_of c) (pool_of cs), w.1))
     by (inr w) = w.0
 
-some_places : (c : Const) → 1 ≤ length (places c)
-some_places c = by (count_of c)
+some_entries : (c : Const) → 1 ≤ length (entries_of c)
+some_entries c = by (count_of c)
   where
-    by : ((is_of kind.Double c ≡ true) × (length (places c) ≡ 2)) ⊎ ((is_of kind.Double c ≡ false) × (length (places c) ≡ 1)) → 1 ≤ length (places c)
+    by : ((is_of kind.Double c ≡ true) × (length (entries_of c) ≡ 2)) ⊎ ((is_of kind.Double c ≡ false) × (length (entries_of c) ≡ 1)) → 1 ≤ length (entries_of c)
     by (inl w) = omega (arith, w.1)
     by (inr w) = omega (arith, w.1)
 
-pub places_again : (cs : List Const) (rest : List ℕ) → AllByRecursion ConstantFits cs → places_at (length (pool_of cs)) (flat_map constant_bytes cs ++ rest) ≡ Ok (pool_of cs, rest)
-unfolding places_at
-places_again [] rest f = refl
-places_again (c ∷ cs) rest f =
+pub entries_again : (cs : List Const) (rest : List ℕ) → AllByRecursion ConstantFits cs → entries_at (length (pool_of cs)) (flat_map constant_bytes cs ++ rest) ≡ Ok (pool_of cs, rest)
+unfolding entries_at
+entries_again [] rest f = refl
+entries_again (c ∷ cs) rest f =
     let left : ℕ = length (pool_of (c ∷ cs)) in
     let after : List ℕ = flat_map constant_bytes cs ++ rest in
-    let size : left ≡ length (places c) + length (pool_of cs) = length-append (places c) (pool_of cs) in
-    let some = some_places c in
-    let less : left - length (places c) ≡ length (pool_of cs) = omega arith in
+    let size : left ≡ length (entries_of c) + length (pool_of cs) = length-append (entries_of c) (pool_of cs) in
+    let some = some_entries c in
+    let less : left - length (entries_of c) ≡ length (pool_of cs) = omega arith in
     let y : Read (List Const) = Ok (pool_of (c ∷ cs), rest) in
-    ap (places_at left) (append_assoc (constant_bytes c) (flat_map constant_bytes cs) rest)
-    ∙ places_more left (constant_bytes c ++ after) (omega (arith, size, some))
-    ∙ bind_at (constant_at (left == 1) (constant_bytes c ++ after)) (c, after) (λ one. with_front (places one.0) (places_at (left - length (places one.0)) one.1)) y
+    ap (entries_at left) (append_assoc (constant_bytes c) (flat_map constant_bytes cs) rest)
+    ∙ entries_more left (constant_bytes c ++ after) (omega (arith, size, some))
+    ∙ bind_at (constant_at (left == 1) (constant_bytes c ++ after)) (c, after) (λ one. with_front (entries_of one.0) (entries_at (left - length (entries_of one.0)) one.1)) y
     (constant_again (left == 1) c after f.0 (last_alone c cs))
-    (ap (λ n. with_front (places c) (places_at n after)) less ∙ ap (with_front (places c)) (places_again cs rest f.1))
+    (ap (λ n. with_front (entries_of c) (entries_at n after)) less ∙ ap (with_front (entries_of c)) (entries_again cs rest f.1))
 
 pub pool_again : (cs : List Const) (rest : List ℕ) → AllByRecursion ConstantFits cs → Fits2 (1 + length (pool_of cs))
     → pool_at (u2 (1 + length (pool_of cs)) ++ (flat_map constant_bytes cs ++ rest)) ≡ Ok (pool_of cs, rest)
@@ -165,7 +166,7 @@ pool_again cs rest f l =
     let n : ℕ = 1 + length (pool_of cs) in
     let less : n - 1 ≡ length (pool_of cs) = omega arith in
     let after : List ℕ = flat_map constant_bytes cs ++ rest in
-    bind_at (u2_at (u2 n ++ after)) (n, after) _ (Ok (pool_of cs, rest)) (u2_again n after l) (ap (λ k. places_at k after) less ∙ places_again cs rest f)
+    bind_at (u2_at (u2 n ++ after)) (n, after) _ (Ok (pool_of cs, rest)) (u2_again n after l) (ap (λ k. entries_at k after) less ∙ entries_again cs rest f)
 
 refers_again : (pool : List Const) (c : Const) (rest : List ℕ) → ConstantFits c → IsTrue (refers_well pool c) → references_at pool c (drop 1 (constant_bytes c ++ rest)) ≡ Ok tt
 unfolding references_at
@@ -197,7 +198,7 @@ references_again pool [] rest f t = refl
 references_again pool (c ∷ cs) rest f t =
     let after : List ℕ = flat_map constant_bytes cs ++ rest in
     ap (all_references_at pool (pool_of (c ∷ cs))) (append_assoc (constant_bytes c) (flat_map constant_bytes cs) rest)
-    ∙ places_refer pool c (pool_of cs) (constant_bytes c ++ after)
+    ∙ entries_refer pool c (pool_of cs) (constant_bytes c ++ after)
     ∙ bind_at (references_at pool c (drop 1 (constant_bytes c ++ after))) tt (λ _. all_references_at pool (pool_of cs) (drop (length (constant_bytes c)) (constant_bytes c ++ after))) (Ok tt)
     (refers_again pool c after f.0 t.0)
     (ap (all_references_at pool (pool_of cs)) (drop_at (constant_bytes c) after (length (constant_bytes c)) refl) ∙ references_again pool cs rest f.1 t.1)

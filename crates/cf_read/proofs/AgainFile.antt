@@ -1,11 +1,11 @@
 -- What is spelled so is read: the whole file.
-use Rattle.std.proofs.Common.{◌≡◌, refl, sym, ap, ◌∙◌, subst, ℕ, suc, ◌+◌, ◌≤◌, List, [], ◌∷◌, ◌++◌, length, map, Ok, false, append_assoc, arith}
-use Rattle.std.specs.Prelude.{◌≢◌, IsTrue}
+use Rattle.std.proofs.Common.{◌≡◌, refl, sym, ap, ◌∙◌, subst, ℕ, suc, ◌+◌, List, [], ◌∷◌, ◌++◌, length, map, Result, Ok, false, append_assoc}
+use Rattle.std.specs.Prelude.{◌≢◌, ◌==◌, IsTrue}
 use Rattle.std.specs.List.{flat_map, AllByRecursion, list_any}
 use Rattle.std.proofs.lemmas.Bool.{or_from, or_parts, false_from_ne_true}
 use Rattle.std.proofs.lemmas.List.{append-nil}
 use Rattle.cf_form.specs.Pool.{u2, names, pool_of, refers_well, constant_bytes}
-use Rattle.cf_form.specs.ClassFiles.{IsField, IsMethod, IsNamed, AreNamed, AreDifferent, Each, key, Says, Reads}
+use Rattle.cf_form.specs.ClassFiles.{IsField, IsMethod, IsNamed, AreNamed, AreDifferent, Each, key, is_version, Says, Reads}
 use Rattle.cf_form.specs.Outline.{counted, AllFit, attribute_bytes, Member, member_bytes, MemberFits, Outline, outline_bytes, OutlineFits, head_bytes}
 use Rattle.cf_form.specs.declared.class_file.ClassFile.{ClassFile}
 use Rattle.cf_form.specs.declared.class_file.FieldInfo.{FieldInfo}
@@ -13,8 +13,10 @@ use Rattle.cf_form.specs.declared.class_file.MethodInfo.{MethodInfo}
 use Rattle.cf_form.specs.declared.constant.Const.{Const}
 use Rattle.cf_form.specs.declared.kind.Kind.TheVariants as kind
 use Rattle.cf_read.specs.Codes.{IsMethodRead}
-use Rattle.cf_read.specs.Looking.{IsReadWhole}
-use Rattle.cf_read.specs.Reading.{Read, ◌>>=◌, u2_at, index_at, attributes_at, interfaces_at, Key, key_of, same_key, members_at, field_key, field_at, fields_at, MethodOutline, method_key, method_at, methods_at, FileOutline, magic_at, version_at, pool_at, all_references_at, head_at, outline_of}
+use Rattle.cf_read.specs.Looking.{IsReadWhole, IsFileRead}
+use Rattle.cf_read.specs.declared.fault.Fault.{Fault}
+use Rattle.cf_read.specs.declared.file_fault.FileKind.TheVariants as fault
+use Rattle.cf_read.specs.Reading.{Read, ◌>>=◌, demand, u2_at, index_at, attributes_at, interfaces_at, Key, key_of, same_key, members_at, field_key, field_at, fields_at, MethodOutline, method_key, method_at, methods_at, FileOutline, magic_at, version_at, pool_at, all_references_at, head_at, outline_of}
 use Rattle.cf_read.proofs.Again.{bind_at, magic_again, version_again, pool_again, references_again}
 use Rattle.cf_read.proofs.AgainParts.{interfaces_again, attributes_again, field_again, method_again}
 use Rattle.cf_read.proofs.TakesPool.{u2_again, index_again}
@@ -118,26 +120,32 @@ methods_again pool ms infos rest fits named each =
         record { value = r.outline; read = r.read; keyed = r.keyed; is = r.is }
 
 -- the head of a file
-head_again : (o : Outline) (rest : List ℕ) → OutlineFits o → 45 ≤ o.major → o.major ≤ 49 → AllByRecursion (λ c. IsTrue (refers_well (pool_of o.constants) c)) o.constants
+head_again : (o : Outline) (rest : List ℕ) → OutlineFits o → IsTrue (is_version o.major) → AllByRecursion (λ c. IsTrue (refers_well (pool_of o.constants) c)) o.constants
     → head_at (head_bytes o ++ rest) ≡ Ok (((o.minor, o.major), pool_of o.constants), rest)
 unfolding head_at
-head_again o rest f old new refers =
+head_again o rest f version_right refers =
     let pool : List Const = pool_of o.constants in
     let y : Read ((ℕ × ℕ) × List Const) = Ok (((o.minor, o.major), pool), rest) in
     let constants : List ℕ = flat_map constant_bytes o.constants ++ rest in
     let count : List ℕ = u2 (1 + length pool) ++ constants in
     let version : List ℕ = u2 o.minor ++ (u2 o.major ++ count) in
     bind_at (magic_at (0xCA ∷ 0xFE ∷ 0xBA ∷ 0xBE ∷ version)) (tt, version) _ y (magic_again version)
-    (bind_at (version_at version) ((o.minor, o.major), count) _ y (version_again o.minor o.major count f.minor old new)
+    (bind_at (version_at version) ((o.minor, o.major), count) _ y (version_again o.minor o.major count f.minor f.major version_right)
     (bind_at (pool_at count) (pool, rest) _ y (pool_again o.constants rest f.constants f.count)
     (bind_at (all_references_at pool pool constants) tt (λ _. y) y (references_again pool o.constants rest f.constants refers) refl)))
 
-regroup : (h a b c d e f g : List ℕ) → h ++ a ++ b ++ c ++ d ++ e ++ f ++ g ≡ h ++ (a ++ (b ++ (c ++ (d ++ (e ++ (f ++ g))))))
-regroup h a b c d e f g = simp append_assoc
+regroup : (h a b c d e f g more : List ℕ) → (h ++ a ++ b ++ c ++ d ++ e ++ f ++ g) ++ more ≡ h ++ (a ++ (b ++ (c ++ (d ++ (e ++ (f ++ (g ++ more)))))))
+regroup h a b c d e f g more = simp append_assoc
 
-pub outline_again : (o : Outline) (file : ClassFile) → OutlineFits o → Says o file → IsReadWhole (outline_bytes o) file
+-- the bytes of an outline, and more behind them: its file is read, and then the end is looked for
+pub record OutlineAgain (o : Outline) (file : ClassFile) (more : List ℕ) : Type 0 where
+  pub made : FileOutline
+  pub read : outline_of (outline_bytes o ++ more) ≡ (demand (length more == 0) fault.Rest more >>= λ _. Ok made)
+  pub is : IsFileRead made file
+
+pub outline_to : (o : Outline) (file : ClassFile) (more : List ℕ) → OutlineFits o → Says o file → OutlineAgain o file more
 unfolding outline_of
-outline_again o file fits says =
+outline_to o file more fits says =
     let pool : List Const = file.pool in
     let e = says.pool in
     let back : List Const → Type 0 = λ p. AllByRecursion (λ c. IsTrue (refers_well p c)) o.constants in
@@ -150,7 +158,7 @@ outline_again o file fits says =
     let this_class = subst (λ p. Class p o.this) (sym e) (subst (Class file.pool) (sym says.this) says.is_class) in
     let parent_class = subst (λ p. Class p o.parent) (sym e) (subst (Class file.pool) (sym says.parent) says.has_parent) in
     let classes = subst (λ p. AllByRecursion (Class p) o.interfaces) (sym e) (subst (AllByRecursion (Class file.pool)) (sym says.interfaces) says.are_classes) in
-    let b7 : List ℕ = counted attribute_bytes o.attributes in
+    let b7 : List ℕ = counted attribute_bytes o.attributes ++ more in
     let b6 : List ℕ = counted member_bytes o.methods ++ b7 in
     let b5 : List ℕ = counted member_bytes o.fields ++ b6 in
     let b4 : List ℕ = counted u2 o.interfaces ++ b5 in
@@ -169,22 +177,23 @@ outline_again o file fits says =
       fields = file.fields;
       methods = ms.outlines;
     } in
-    let last : attributes_at b7 ≡ Ok (tt, []) = ap attributes_at (sym (append-nil b7)) ∙ attributes_again o.attributes [] fits.attributes in
-    let read : outline_of (outline_bytes o) ≡ Ok made =
-    ap outline_of (regroup (head_bytes o) (u2 o.access) (u2 o.this) (u2 o.parent) (counted u2 o.interfaces) (counted member_bytes o.fields) (counted member_bytes o.methods) b7)
-    ∙ bind_at (head_at (head_bytes o ++ b1)) (((o.minor, o.major), q), b1) _ (Ok made)
-    (head_again o b1 fits (omega (arith, says.not_older, says.major)) (omega (arith, says.not_newer, says.major)) refers)
-    (bind_at (u2_at b1) (o.access, b2) _ (Ok made) (u2_again o.access b2 fits.access)
-    (bind_at (index_at q kind.Class b2) (o.this, b3) _ (Ok made) (index_again q kind.Class o.this b3 fits.this this_class)
-    (bind_at (index_at q kind.Class b3) (o.parent, b4) _ (Ok made) (index_again q kind.Class o.parent b4 fits.parent parent_class)
-    (bind_at (interfaces_at q b4) (o.interfaces, b5) _ (Ok made) (interfaces_again q o.interfaces b5 fits.interfaces classes)
-    (bind_at (fields_at q b5) (file.fields, b6) _ (Ok made) (fields_again q o.fields file.fields b6 fits.fields named_fields says.fields)
-    (bind_at (methods_at q b6) (ms.outlines, b7) _ (Ok made) ms.read
-    (bind_at (attributes_at b7) (tt, []) _ (Ok made) last
-    refl))))))) in (
-      made,
-      read,
-      record {
+    let y : Result FileOutline Fault = demand (length more == 0) fault.Rest more >>= λ _. Ok made in
+    let read : outline_of (outline_bytes o ++ more) ≡ y =
+    ap outline_of (regroup (head_bytes o) (u2 o.access) (u2 o.this) (u2 o.parent) (counted u2 o.interfaces) (counted member_bytes o.fields) (counted member_bytes o.methods) (counted attribute_bytes o.attributes) more)
+    ∙ bind_at (head_at (head_bytes o ++ b1)) (((o.minor, o.major), q), b1) _ y
+    (head_again o b1 fits (subst (λ n. IsTrue (is_version n)) (sym says.major) says.version) refers)
+    (bind_at (u2_at b1) (o.access, b2) _ y (u2_again o.access b2 fits.access)
+    (bind_at (index_at q kind.Class b2) (o.this, b3) _ y (index_again q kind.Class o.this b3 fits.this this_class)
+    (bind_at (index_at q kind.Class b3) (o.parent, b4) _ y (index_again q kind.Class o.parent b4 fits.parent parent_class)
+    (bind_at (interfaces_at q b4) (o.interfaces, b5) _ y (interfaces_again q o.interfaces b5 fits.interfaces classes)
+    (bind_at (fields_at q b5) (file.fields, b6) _ y (fields_again q o.fields file.fields b6 fits.fields named_fields says.fields)
+    (bind_at (methods_at q b6) (ms.outlines, b7) _ y ms.read
+    (bind_at (attributes_at b7) (tt, more) _ y (attributes_again o.attributes more fits.attributes)
+    refl))))))) in
+    record {
+      made = made;
+      read = read;
+      is = record {
         minor = says.minor;
         major = says.major;
         pool = says.pool;
@@ -194,8 +203,13 @@ outline_again o file fits says =
         interfaces = says.interfaces;
         fields = refl;
         methods = ms.each;
-      },
-    )
+      };
+    }
+
+pub outline_again : (o : Outline) (file : ClassFile) → OutlineFits o → Says o file → IsReadWhole (outline_bytes o) file
+outline_again o file fits says =
+    let r = outline_to o file [] fits says in
+    (r.made, ap outline_of (sym (append-nil (outline_bytes o))) ∙ r.read, r.is)
 
 pub reads_again : (bytes : List ℕ) (file : ClassFile) → Reads bytes file → IsReadWhole bytes file
 reads_again bytes file r = subst (λ b. IsReadWhole b file) (sym r.1.is_spelled) (outline_again r.0 file r.1.fits r.1.says)

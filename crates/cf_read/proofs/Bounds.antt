@@ -12,12 +12,20 @@ use Rattle.cf_mutf8.specs.Decoded.{decoded}
 use Rattle.cf_read.specs.declared.fault.Fault.{Fault}
 use Rattle.cf_read.specs.declared.file_fault.FileKind.{FileKind}
 use Rattle.cf_read.specs.declared.file_fault.FileKind.TheVariants as fault
-use Rattle.cf_read.specs.Reading.{Read, ◌>>=◌, demand, some_at, u1_at, u2_at, u4_at, u8_at, magic_at, version_at, text_or, text_constant_at, indexed_at, two_at, paired_at, int_at, float_at, long_at, double_at, tagged_at, constant_at, places_at, pool_at, index_at, indexes_at, references_at, all_references_at, many_at, interfaces_at, info_at, passed_one_at, passed_at, attributes_at, row_at, Found, content_at, code_at, is_none, is_code_name, is_without_code, method_code_at, other_at, attribute_at, method_attributes_at, Key, key_of, same_key, MethodOutline, front_at, members_at, field_key, field_at, fields_at, method_at, method_key, methods_at, FileOutline, head_at, outline_of}
+use Rattle.cf_read.specs.Reading.{Read, ◌>>=◌, demand, some_at, u1_at, u2_at, u4_at, u8_at, text_or, text_constant_at, indexed_at, two_at, paired_at, int_at, float_at, long_at, double_at, tagged_at, constant_at, entries_at, pool_at, index_at, indexes_at, references_at, all_references_at, many_at, interfaces_at, info_at, passed_one_at, passed_at, attributes_at, row_at, Found, content_at, code_at, is_none, is_code_name, is_without_code, method_code_at, other_at, attribute_at, method_attributes_at, Key, key_of, same_key, MethodOutline, front_at, members_at, field_key, field_at, fields_at, method_at, method_key, methods_at}
+
+-- what the kind of a fault tells of the bytes that are left, behind the version and before the file's end
+abbrev pub Plain : FileKind → ℕ → Type 0
+Plain fault.Magic left = ⊥
+Plain fault.Version left = ⊥
+Plain fault.Cut left = left ≡ 0
+Plain fault.Rest left = ⊥
+Plain _ left = Unit {0}
 
 -- what was read has the property, or the fault has no more than n bytes left
 abbrev pub Held : {A : Type 0} → (A → Type 0) → ℕ → Result A Fault → Type 0
 Held P n (Ok x) = P x
-Held P n (Err f) = f.left ≤ n
+Held P n (Err f) = (f.left ≤ n) × Plain f.kind f.left
 
 pub held_bind : {A B : Type 0} (P : A → Type 0) (Q : B → Type 0) (n : ℕ) (r : Result A Fault) (g : A → Result B Fault)
     → Held P n r → ((x : A) → P x → Held Q n (g x)) → Held Q n (r >>= g)
@@ -31,21 +39,21 @@ With P n x = P x.0 × (length x.1 ≤ n)
 abbrev pub Any : {A : Type 0} → A → Type 0
 Any x = Unit {0}
 
-demanded : (n : ℕ) (b : Bool) (k : FileKind) (from : List ℕ) → length from ≤ n → Held (λ _. b ≡ true) n (demand b k from)
-demanded n true k from l = refl
-demanded n false k from l = l
+pub demanded : (n : ℕ) (b : Bool) (k : FileKind) (from : List ℕ) → length from ≤ n → Plain k (length from) → Held (λ _. b ≡ true) n (demand b k from)
+demanded n true k from l p = refl
+demanded n false k from l p = (l, p)
 
-some_held : (n count : ℕ) (bytes : List ℕ) → length bytes ≤ n → Held (With (λ xs. length xs ≤ count) n) n (some_at count bytes)
+pub some_held : (n count : ℕ) (bytes : List ℕ) → length bytes ≤ n → Held (With (λ xs. length xs ≤ count) n) n (some_at count bytes)
 unfolding some_at
 some_held n count bytes l =
-    cond_both (nat_lt (length bytes) count) _ _ (Held (With (λ xs. length xs ≤ count) n) n) (λ e. omega arith) (λ e. (omega (arith, length-take count bytes), omega (arith, length-drop count bytes)))
+    cond_both (nat_lt (length bytes) count) _ _ (Held (With (λ xs. length xs ≤ count) n) n) (λ e. (omega arith, refl)) (λ e. (omega (arith, length-take count bytes), omega (arith, length-drop count bytes)))
 
 u1_held : (n : ℕ) (bytes : List ℕ) → length bytes ≤ n → Held (With Any n) n (u1_at bytes)
 unfolding u1_at
-u1_held n [] l = omega arith
+u1_held n [] l = (omega arith, refl)
 u1_held n (b ∷ bytes) l = (tt, omega arith)
 
-u2_held : (n : ℕ) (bytes : List ℕ) → length bytes ≤ n → Held (With Any n) n (u2_at bytes)
+pub u2_held : (n : ℕ) (bytes : List ℕ) → length bytes ≤ n → Held (With Any n) n (u2_at bytes)
 unfolding u2_at
 u2_held n bytes l = held_bind _ (With Any n) n (some_at 2 bytes) _ (some_held n 2 bytes l) (λ x p. (tt, p.1))
 
@@ -57,12 +65,6 @@ u8_held : (n : ℕ) (bytes : List ℕ) → length bytes ≤ n → Held (With Any
 unfolding u8_at
 u8_held n bytes l = held_bind _ (With Any n) n (some_at 8 bytes) _ (some_held n 8 bytes l) (λ x p. (tt, p.1))
 
-magic_held : (n : ℕ) (bytes : List ℕ) → length bytes ≤ n → Held (With Any n) n (magic_at bytes)
-unfolding magic_at
-magic_held n bytes l =
-    held_bind _ (With Any n) n (u4_at bytes) _ (u4_held n bytes l) (λ x p.
-    held_bind _ (With Any n) n (demand (x.0 == 0xCAFEBABE) fault.Magic bytes) _ (demanded n _ fault.Magic bytes l) (λ y q. (tt, p.1)))
-
 held_weaker : {A : Type 0} (P Q : A → Type 0) (n : ℕ) (r : Result A Fault) → ((x : A) → P x → Q x) → Held P n r → Held Q n r
 held_weaker P Q n (Ok x) f h = f x h
 held_weaker P Q n (Err e) f h = h
@@ -71,15 +73,8 @@ chosen : {A : Type 0} (P : A → Type 0) (n : ℕ) (b : Bool) (x y : Result A Fa
 chosen P n true x y h k = h
 chosen P n false x y h k = k
 
-version_held : (n : ℕ) (bytes : List ℕ) → length bytes ≤ n → Held (With Any n) n (version_at bytes)
-unfolding version_at
-version_held n bytes l =
-    held_bind _ (With Any n) n (u2_at bytes) _ (u2_held n bytes l) (λ minor p.
-    held_bind _ (With Any n) n (u2_at minor.1) _ (u2_held n minor.1 p.1) (λ major q.
-    held_bind _ (With Any n) n (demand (nat_le 45 major.0 && nat_le major.0 49) fault.Version minor.1) _ (demanded n _ fault.Version minor.1 p.1) (λ y r. (tt, q.1))))
-
 text_or_held : (n : ℕ) (from rest : List ℕ) (o : Option (List ℕ)) → length from ≤ n → length rest ≤ n → Held (With Any n) n (text_or from rest o)
-text_or_held n from rest None l m = l
+text_or_held n from rest None l m = (l, tt)
 text_or_held n from rest (Some text) l m = (tt, m)
 
 text_constant_held : (n : ℕ) (from bytes : List ℕ) → length from ≤ n → length bytes ≤ n → Held (With Any n) n (text_constant_at from bytes)
@@ -131,33 +126,33 @@ tagged_held tag n from bytes m l =
     (chosen (With Any n) n (tag == 9) _ _ (paired_held Field n bytes l)
     (chosen (With Any n) n (tag == 10) _ _ (paired_held Method n bytes l)
     (chosen (With Any n) n (tag == 11) _ _ (paired_held Interface n bytes l)
-    (chosen (With Any n) n (tag == 12) _ _ (paired_held NameType n bytes l) m))))))))))
+    (chosen (With Any n) n (tag == 12) _ _ (paired_held NameType n bytes l) (m, tt)))))))))))
 
 constant_held : (last : Bool) (n : ℕ) (bytes : List ℕ) → length bytes ≤ n → Held (With Any n) n (constant_at last bytes)
 unfolding constant_at
 constant_held last n bytes l =
     held_bind _ (With Any n) n (u1_at bytes) _ (u1_held n bytes l) (λ tag p.
-    held_bind _ (With Any n) n (demand _ fault.Index bytes) _ (demanded n _ fault.Index bytes l) (λ y q. tagged_held tag.0 n bytes tag.1 l p.1))
+    held_bind _ (With Any n) n (demand _ fault.Index bytes) _ (demanded n _ fault.Index bytes l tt) (λ y q. tagged_held tag.0 n bytes tag.1 l p.1))
 
-places_held : (count n : ℕ) (bytes : List ℕ) → length bytes ≤ n → Held (With Any n) n (places_at count bytes)
-unfolding places_at
-places_held zero n bytes l = (tt, l)
-places_held (suc zero) n bytes l = held_bind _ (With Any n) n (constant_at true bytes) _ (constant_held true n bytes l) (λ x p. (tt, p.1))
-places_held (suc (suc count)) n bytes l =
+entries_held : (count n : ℕ) (bytes : List ℕ) → length bytes ≤ n → Held (With Any n) n (entries_at count bytes)
+unfolding entries_at
+entries_held zero n bytes l = (tt, l)
+entries_held (suc zero) n bytes l = held_bind _ (With Any n) n (constant_at true bytes) _ (constant_held true n bytes l) (λ x p. (tt, p.1))
+entries_held (suc (suc count)) n bytes l =
     held_bind _ (With Any n) n (constant_at false bytes) _ (constant_held false n bytes l) (λ one p.
-    held_bind _ (With Any n) n (if is_of kind.Double one.0 then places_at count one.1 else places_at (suc count) one.1) _
-    (chosen (With Any n) n (is_of kind.Double one.0) _ _ (places_held count n one.1 p.1) (places_held (suc count) n one.1 p.1)) (λ x q. (tt, q.1)))
+    held_bind _ (With Any n) n (if is_of kind.Double one.0 then entries_at count one.1 else entries_at (suc count) one.1) _
+    (chosen (With Any n) n (is_of kind.Double one.0) _ _ (entries_held count n one.1 p.1) (entries_held (suc count) n one.1 p.1)) (λ x q. (tt, q.1)))
 
-pool_held : (n : ℕ) (bytes : List ℕ) → length bytes ≤ n → Held (With Any n) n (pool_at bytes)
+pub pool_held : (n : ℕ) (bytes : List ℕ) → length bytes ≤ n → Held (With Any n) n (pool_at bytes)
 unfolding pool_at
 pool_held n bytes l =
-    held_bind _ (With Any n) n (u2_at bytes) _ (u2_held n bytes l) (λ count p. places_held (count.0 - 1) n count.1 p.1)
+    held_bind _ (With Any n) n (u2_at bytes) _ (u2_held n bytes l) (λ count p. entries_held (count.0 - 1) n count.1 p.1)
 
-index_held : (pool : List Const) (k : Kind) (n : ℕ) (bytes : List ℕ) → length bytes ≤ n → Held (With Any n) n (index_at pool k bytes)
+pub index_held : (pool : List Const) (k : Kind) (n : ℕ) (bytes : List ℕ) → length bytes ≤ n → Held (With Any n) n (index_at pool k bytes)
 unfolding index_at
 index_held pool k n bytes l =
     held_bind _ (With Any n) n (u2_at bytes) _ (u2_held n bytes l) (λ index p.
-    held_bind _ (With Any n) n (demand (names pool k index.0) fault.Index bytes) _ (demanded n _ fault.Index bytes l) (λ y q. p))
+    held_bind _ (With Any n) n (demand (names pool k index.0) fault.Index bytes) _ (demanded n _ fault.Index bytes l tt) (λ y q. p))
 
 indexes_held : (pool : List Const) (k m : Kind) (n : ℕ) (bytes : List ℕ) → length bytes ≤ n → Held (With Any n) n (indexes_at pool k m bytes)
 unfolding indexes_at
@@ -180,7 +175,7 @@ references_held pool (Long x) n bytes l = tt
 references_held pool (Double bits) n bytes l = tt
 references_held pool Rest n bytes l = tt
 
-all_references_held : (pool cs : List Const) (n : ℕ) (bytes : List ℕ) → length bytes ≤ n → Held Any n (all_references_at pool cs bytes)
+pub all_references_held : (pool cs : List Const) (n : ℕ) (bytes : List ℕ) → length bytes ≤ n → Held Any n (all_references_at pool cs bytes)
 unfolding all_references_at
 all_references_held pool [] n bytes l = tt
 all_references_held pool (c ∷ cs) n bytes l =
@@ -195,7 +190,7 @@ many_held one n h (suc count) bytes l =
     held_bind _ (With Any n) n (one bytes) _ (h bytes l) (λ first p.
     held_bind _ (With Any n) n (many_at one count first.1) _ (many_held one n h count first.1 p.1) (λ others q. (tt, q.1)))
 
-interfaces_held : (pool : List Const) (n : ℕ) (bytes : List ℕ) → length bytes ≤ n → Held (With Any n) n (interfaces_at pool bytes)
+pub interfaces_held : (pool : List Const) (n : ℕ) (bytes : List ℕ) → length bytes ≤ n → Held (With Any n) n (interfaces_at pool bytes)
 unfolding interfaces_at
 interfaces_held pool n bytes l =
     held_bind _ (With Any n) n (u2_at bytes) _ (u2_held n bytes l) (λ count p. many_held (index_at pool kind.Class) n (index_held pool kind.Class n) count.0 count.1 p.1)
@@ -218,7 +213,7 @@ passed_held zero n bytes l = (tt, l)
 passed_held (suc count) n bytes l =
     held_bind _ (With Any n) n (passed_one_at bytes) _ (passed_one_held n bytes l) (λ first p. passed_held count n first.1 p.1)
 
-attributes_held : (n : ℕ) (bytes : List ℕ) → length bytes ≤ n → Held (With Any n) n (attributes_at bytes)
+pub attributes_held : (n : ℕ) (bytes : List ℕ) → length bytes ≤ n → Held (With Any n) n (attributes_at bytes)
 unfolding attributes_at
 attributes_held n bytes l =
     held_bind _ (With Any n) n (u2_at bytes) _ (u2_held n bytes l) (λ count p. passed_held count.0 n count.1 p.1)
@@ -244,7 +239,7 @@ content_held n bytes l =
     held_bind _ Q n (u2_at bytes) _ (u2_held n bytes l) (λ a p.
     held_bind _ Q n (u2_at a.1) _ (u2_held n a.1 p.1) (λ b q.
     held_bind _ Q n (u4_at b.1) _ (u4_held n b.1 q.1) (λ count r.
-    held_bind _ Q n (demand (nat_le 1 count.0 && nat_le count.0 65535) fault.Code b.1) _ (demanded n _ fault.Code b.1 q.1) (λ y few.
+    held_bind _ Q n (demand (nat_le 1 count.0 && nat_le count.0 65535) fault.Code b.1) _ (demanded n _ fault.Code b.1 q.1 tt) (λ y few.
     held_bind _ Q n (some_at count.0 count.1) _ (some_held n count.0 count.1 r.1) (λ code s.
     held_bind _ Q n (u2_at code.1) _ (u2_held n code.1 s.1) (λ many t.
     held_bind _ Q n (many_at row_at many.0 many.1) _ (many_held row_at n (row_held n) many.0 many.1 t.1) (λ rows u.
@@ -263,7 +258,7 @@ code_held n bytes l =
     let Q = With (FoundFits n) n in
     held_bind _ Q n (u4_at bytes) _ (u4_held n bytes l) (λ count p.
     held_bind _ Q n (content_at count.1) _ (content_held n count.1 p.1) (λ found q.
-    held_bind _ Q n (demand (count.0 + length found.1 == length count.1) fault.Code bytes) _ (demanded n _ fault.Code bytes l) (λ y r. q)))
+    held_bind _ Q n (demand (count.0 + length found.1 == length count.1) fault.Code bytes) _ (demanded n _ fault.Code bytes l tt) (λ y r. q)))
 
 abbrev pub OptFits : ℕ → Option Found → Type 0
 OptFits n None = Unit {0}
@@ -274,7 +269,7 @@ method_code_held : (n access : ℕ) (before : Option Found) (from bytes : List �
 unfolding method_code_at
 method_code_held n access before from bytes m l =
     let Q = With (OptFits n) n in
-    held_bind _ Q n (demand (not (is_without_code access) && is_none before) fault.Code from) _ (demanded n (not (is_without_code access) && is_none before) fault.Code from m) (λ y r.
+    held_bind _ Q n (demand (not (is_without_code access) && is_none before) fault.Code from) _ (demanded n (not (is_without_code access) && is_none before) fault.Code from m tt) (λ y r.
     held_bind _ Q n (code_at bytes) _ (code_held n bytes l) (λ found p. p))
 
 other_held : (n : ℕ) (before : Option Found) (bytes : List ℕ) → length bytes ≤ n → OptFits n before → Held (With (OptFits n) n) n (other_at before bytes)
@@ -303,7 +298,7 @@ front_held n pool keys bytes l =
     held_bind _ (With Any n) n (u2_at bytes) _ (u2_held n bytes l) (λ access p.
     held_bind _ (With Any n) n (index_at pool kind.Utf8 access.1) _ (index_held pool kind.Utf8 n access.1 p.1) (λ name q.
     held_bind _ (With Any n) n (index_at pool kind.Utf8 name.1) _ (index_held pool kind.Utf8 n name.1 q.1) (λ descriptor r.
-    held_bind _ (With Any n) n (demand (not (list_any (same_key (key_of pool name.0 descriptor.0)) keys)) fault.Double bytes) _ (demanded n (not (list_any (same_key (key_of pool name.0 descriptor.0)) keys)) fault.Double bytes l) (λ y s. (tt, r.1)))))
+    held_bind _ (With Any n) n (demand (not (list_any (same_key (key_of pool name.0 descriptor.0)) keys)) fault.Double bytes) _ (demanded n (not (list_any (same_key (key_of pool name.0 descriptor.0)) keys)) fault.Double bytes l tt) (λ y s. (tt, r.1)))))
 
 members_held : {A : Type 0} (P : A → Type 0) (one : List Key → List ℕ → Read A) (key : A → Key) (n : ℕ)
     → ((keys : List Key) (bytes : List ℕ) → length bytes ≤ n → Held (With P n) n (one keys bytes))
@@ -322,7 +317,7 @@ field_held n pool keys bytes l =
     held_bind _ (With Any n) n (front_at pool keys bytes) _ (front_held n pool keys bytes l) (λ front p.
     held_bind _ (With Any n) n (attributes_at front.1) _ (attributes_held n front.1 p.1) (λ attributes q. (tt, q.1)))
 
-fields_held : (n : ℕ) (pool : List Const) (bytes : List ℕ) → length bytes ≤ n → Held (With (AllByRecursion Any) n) n (fields_at pool bytes)
+pub fields_held : (n : ℕ) (pool : List Const) (bytes : List ℕ) → length bytes ≤ n → Held (With (AllByRecursion Any) n) n (fields_at pool bytes)
 unfolding fields_at
 fields_held n pool bytes l =
     held_bind _ (With (AllByRecursion Any) n) n (u2_at bytes) _ (u2_held n bytes l)
@@ -338,33 +333,10 @@ method_held n pool keys bytes l =
     held_bind _ Q n (front_at pool keys bytes) _ (front_held n pool keys bytes l) (λ front p.
     held_bind _ Q n (u2_at front.1) _ (u2_held n front.1 p.1) (λ count q.
     held_bind _ Q n (method_attributes_at count.0 pool front.0.access None count.1) _ (method_attributes_held count.0 n pool front.0.access None count.1 q.1 tt) (λ code r.
-    held_bind _ Q n (demand (is_without_code front.0.access || not (is_none code.0)) fault.Code bytes) _ (demanded n (is_without_code front.0.access || not (is_none code.0)) fault.Code bytes l) (λ y s. r))))
+    held_bind _ Q n (demand (is_without_code front.0.access || not (is_none code.0)) fault.Code bytes) _ (demanded n (is_without_code front.0.access || not (is_none code.0)) fault.Code bytes l tt) (λ y s. r))))
 
-methods_held : (n : ℕ) (pool : List Const) (bytes : List ℕ) → length bytes ≤ n → Held (With (AllByRecursion (MethodFits n)) n) n (methods_at pool bytes)
+pub methods_held : (n : ℕ) (pool : List Const) (bytes : List ℕ) → length bytes ≤ n → Held (With (AllByRecursion (MethodFits n)) n) n (methods_at pool bytes)
 unfolding methods_at
 methods_held n pool bytes l =
     held_bind _ (With (AllByRecursion (MethodFits n)) n) n (u2_at bytes) _ (u2_held n bytes l)
     (λ count p. members_held (MethodFits n) (method_at pool) (method_key pool) n (method_held n pool) count.0 [] count.1 p.1)
-
-head_held : (n : ℕ) (bytes : List ℕ) → length bytes ≤ n → Held (With Any n) n (head_at bytes)
-unfolding head_at
-head_held n bytes l =
-    held_bind _ (With Any n) n (magic_at bytes) _ (magic_held n bytes l) (λ magic p.
-    held_bind _ (With Any n) n (version_at magic.1) _ (version_held n magic.1 p.1) (λ version q.
-    held_bind _ (With Any n) n (pool_at version.1) _ (pool_held n version.1 q.1) (λ pool r.
-    held_bind _ (With Any n) n (all_references_at pool.0 pool.0 (drop 2 version.1)) _
-    (all_references_held pool.0 pool.0 n (drop 2 version.1) (omega (arith, length-drop 2 version.1, q.1))) (λ y s. (tt, r.1)))))
-
-pub outline_held : (n : ℕ) (bytes : List ℕ) → length bytes ≤ n → Held (λ o. AllByRecursion (MethodFits n) o.methods) n (outline_of bytes)
-unfolding outline_of
-outline_held n bytes l =
-    let Q = λ (o : FileOutline). AllByRecursion (MethodFits n) o.methods in
-    held_bind _ Q n (head_at bytes) _ (head_held n bytes l) (λ head p.
-    held_bind _ Q n (u2_at head.1) _ (u2_held n head.1 p.1) (λ access q.
-    held_bind _ Q n (index_at head.0.1 kind.Class access.1) _ (index_held head.0.1 kind.Class n access.1 q.1) (λ this r.
-    held_bind _ Q n (index_at head.0.1 kind.Class this.1) _ (index_held head.0.1 kind.Class n this.1 r.1) (λ parent s.
-    held_bind _ Q n (interfaces_at head.0.1 parent.1) _ (interfaces_held head.0.1 n parent.1 s.1) (λ interfaces t.
-    held_bind _ Q n (fields_at head.0.1 interfaces.1) _ (fields_held n head.0.1 interfaces.1 t.1) (λ fields u.
-    held_bind _ Q n (methods_at head.0.1 fields.1) _ (methods_held n head.0.1 fields.1 u.1) (λ methods v.
-    held_bind _ Q n (attributes_at methods.1) _ (attributes_held n methods.1 v.1) (λ attributes w.
-    held_bind _ Q n (demand (length attributes.1 == 0) fault.Rest attributes.1) _ (demanded n _ fault.Rest attributes.1 w.1) (λ y x. v.0)))))))))

@@ -4,7 +4,7 @@ use Rattle.std.specs.Prelude.{slice_get}
 use Rattle.std.specs.List.{flat_map, AllByRecursion}
 use Rattle.std.proofs.lemmas.Bool.{cases_lt}
 use Rattle.cf_form.specs.ClassFiles.{Each, NamesWell, row_of, HandlerFits}
-use Rattle.cf_form.specs.Instructions.{bytes_of, place, IsCode, code_bytes}
+use Rattle.cf_form.specs.Instructions.{bytes_of, offset, IsCode, code_bytes}
 use Rattle.cf_form.specs.Outline.{Row}
 use Rattle.cf_form.specs.declared.class_file.ClassFile.{ClassFile}
 use Rattle.cf_form.specs.declared.class_file.FieldInfo.{FieldInfo}
@@ -28,7 +28,7 @@ use Rattle.cf_read.proofs.Rows.{rows_right}
 
 -- ---- one code
 
-number_same : (code : List Instr) (j k : ℕ) → IsCode code → j ≤ length code → k ≤ length code → place code j ≡ place code k → j ≡ k
+number_same : (code : List Instr) (j k : ℕ) → IsCode code → j ≤ length code → k ≤ length code → offset code j ≡ offset code k → j ≡ k
 number_same code j k c l m e = by (cases_lt j k) (cases_lt k j)
   where
     by : (j < k) ⊎ (k ≤ j) → (k < j) ⊎ (j ≤ k) → j ≡ k

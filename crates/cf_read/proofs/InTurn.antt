@@ -1,5 +1,5 @@
 -- Members and the attributes of a method, one after the other, as a loop reads them.
-use Rattle.std.proofs.Common.{◌≡◌, refl, sym, ap, ◌∙◌, ℕ, zero, suc, ◌+◌, ◌-◌, ◌<◌, ◌≤◌, List, [], ◌∷◌, ◌++◌, Ok, Option, Bool, arith}
+use Rattle.std.proofs.Common.{◌≡◌, refl, sym, ap, ◌∙◌, ℕ, zero, suc, ◌+◌, ◌-◌, ◌<◌, ◌≤◌, List, [], ◌∷◌, ◌++◌, Ok, Err, Option, Bool, arith}
 use Rattle.std.specs.Prelude.{codes, encode_utf8_all}
 use Rattle.std.specs.Str.{bytes_eq, chars}
 use Rattle.std.proofs.lemmas.Bool.Decides.{same_from_decides}
@@ -19,6 +19,18 @@ unfolding members_at
 members_more one key count i keys bytes l =
     let k : count - i ≡ suc (count - (i + 1)) = omega arith in
     ap (λ n. members_at one key n keys bytes) k
+
+starts_with : {A : Type 0} (read : Read (List A)) → with_front [] read ≡ read
+starts_with (Ok x) = refl
+starts_with (Err f) = refl
+
+-- before the first
+pub members_begin : {A : Type 0} (one : List Key → List ℕ → Read A) (key : A → Key) (front : List A) (count : ℕ) (keys : List Key) (bytes : List ℕ) → front ≡ [] → keys ≡ []
+    → with_front front (members_at one key (count - 0) keys bytes) ≡ members_at one key count [] bytes
+members_begin one key front count keys bytes f k =
+    let n : count - 0 ≡ count = omega arith in
+    ap (λ xs. with_front xs (members_at one key (count - 0) keys bytes)) f ∙ starts_with (members_at one key (count - 0) keys bytes)
+    ∙ ap (λ m. members_at one key m keys bytes) n ∙ ap (λ ks. members_at one key count ks bytes) k
 
 pub members_go : {A : Type 0} (one : List Key → List ℕ → Read A) (key : A → Key) (front : List A) (count i : ℕ) (keys : List Key) (bytes after : List ℕ) (x : A) (total : Read (List A))
     → i < count → one keys bytes ≡ Ok (x, after) → with_front front (members_at one key (count - i) keys bytes) ≡ total

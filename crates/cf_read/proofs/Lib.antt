@@ -7,7 +7,6 @@ pub mod Refusing
 pub mod Rows
 pub mod OneByOne
 pub mod Bounds
-pub mod Within
 pub mod Takes
 pub mod TakesPool
 pub mod TakesParts
@@ -21,3 +20,5 @@ pub mod Memory
 pub mod SeenKeys
 pub mod Numbering
 pub mod OneFault
+pub mod SimpleKinds
+pub mod Within

@@ -4,7 +4,7 @@ use Rattle.std.proofs.lemmas.List.{append-nil, drop_all}
 use Rattle.std.proofs.Math.Seq.{drop-cons}
 use Rattle.std.proofs.lemmas.Bool.{cond-true, cond-false, ne_eqb}
 use Rattle.std.specs.Prelude.{true, false, if◌then◌else◌}
-use Rattle.cf_form.specs.Pool.{constant_bytes, places, is_of}
+use Rattle.cf_form.specs.Pool.{constant_bytes, entries_of, is_of}
 use Rattle.cf_form.specs.declared.constant.Const.TheVariants.{Utf8, Int, Float, Long, Double, Class, Text, Field, Method, Interface, NameType, Rest}
 use Rattle.cf_form.specs.declared.kind.Kind.TheVariants as kind
 use Rattle.cf_form.specs.declared.constant.Const.{Const}
@@ -12,7 +12,7 @@ use Rattle.cf_read.specs.declared.fault.Fault.{Fault}
 use Rattle.cf_read.specs.declared.fault.Stop.{Stop}
 use Rattle.cf_read.specs.declared.fault.Stop.TheVariants as stop
 use Rattle.cf_read.specs.Giving.{Fails}
-use Rattle.cf_read.specs.Reading.{Read, ◌>>=◌, many_at, constant_at, places_at, passed_one_at, passed_at, references_at, all_references_at}
+use Rattle.cf_read.specs.Reading.{Read, ◌>>=◌, many_at, constant_at, entries_at, passed_one_at, passed_at, references_at, all_references_at}
 
 -- what was read before, and what is still read
 abbrev pub with_front : {A : Type 0} → List A → Read (List A) → Read (List A)
@@ -121,8 +121,8 @@ pub references_done : (pool cs : List Const) (i : ℕ) (bytes : List ℕ) (total
 unfolding all_references_at
 references_done pool cs i bytes total l so_far = sym so_far ∙ ap (λ l. all_references_at pool l bytes) (drop_all i cs l)
 
--- how many places a constant takes
-pub count_of : (c : Const) → ((is_of kind.Double c ≡ true) × (length (places c) ≡ 2)) ⊎ ((is_of kind.Double c ≡ false) × (length (places c) ≡ 1))
+-- how many entries a constant takes
+pub count_of : (c : Const) → ((is_of kind.Double c ≡ true) × (length (entries_of c) ≡ 2)) ⊎ ((is_of kind.Double c ≡ false) × (length (entries_of c) ≡ 1))
 count_of (Long x) = inl (refl, refl)
 count_of (Double bits) = inl (refl, refl)
 count_of (Utf8 text) = inr (refl, refl)
@@ -137,68 +137,68 @@ count_of (NameType name descriptor) = inr (refl, refl)
 count_of Rest = inr (refl, refl)
 
 abbrev others_of : ℕ → Const × List ℕ → Read (List Const)
-others_of n one = if is_of kind.Double one.0 then places_at n one.1 else places_at (suc n) one.1
+others_of n one = if is_of kind.Double one.0 then entries_at n one.1 else entries_at (suc n) one.1
 
-others_are : (n : ℕ) (one : Const × List ℕ) → others_of n one ≡ places_at (suc (suc n) - length (places one.0)) one.1
+others_are : (n : ℕ) (one : Const × List ℕ) → others_of n one ≡ entries_at (suc (suc n) - length (entries_of one.0)) one.1
 others_are n one = by (count_of one.0)
   where
-    by : ((is_of kind.Double one.0 ≡ true) × (length (places one.0) ≡ 2)) ⊎ ((is_of kind.Double one.0 ≡ false) × (length (places one.0) ≡ 1))
-        → others_of n one ≡ places_at (suc (suc n) - length (places one.0)) one.1
-    by (inl w) = let k : n ≡ suc (suc n) - length (places one.0) = omega (arith, w.1) in cond-true _ _ _ w.0 ∙ ap (λ m. places_at m one.1) k
-    by (inr w) = let k : suc n ≡ suc (suc n) - length (places one.0) = omega (arith, w.1) in cond-false _ _ _ w.0 ∙ ap (λ m. places_at m one.1) k
+    by : ((is_of kind.Double one.0 ≡ true) × (length (entries_of one.0) ≡ 2)) ⊎ ((is_of kind.Double one.0 ≡ false) × (length (entries_of one.0) ≡ 1))
+        → others_of n one ≡ entries_at (suc (suc n) - length (entries_of one.0)) one.1
+    by (inl w) = let k : n ≡ suc (suc n) - length (entries_of one.0) = omega (arith, w.1) in cond-true _ _ _ w.0 ∙ ap (λ m. entries_at m one.1) k
+    by (inr w) = let k : suc n ≡ suc (suc n) - length (entries_of one.0) = omega (arith, w.1) in cond-false _ _ _ w.0 ∙ ap (λ m. entries_at m one.1) k
 
-none_left : (c : Const) (bytes : List ℕ) → places_at (1 - length (places c)) bytes ≡ Ok ([], bytes)
-unfolding places_at
+none_left : (c : Const) (bytes : List ℕ) → entries_at (1 - length (entries_of c)) bytes ≡ Ok ([], bytes)
+unfolding entries_at
 none_left c bytes = by (count_of c)
   where
-    by : ((is_of kind.Double c ≡ true) × (length (places c) ≡ 2)) ⊎ ((is_of kind.Double c ≡ false) × (length (places c) ≡ 1))
-        → places_at (1 - length (places c)) bytes ≡ Ok ([], bytes)
-    by (inl w) = ap (λ n. places_at (1 - n) bytes) w.1
-    by (inr w) = ap (λ n. places_at (1 - n) bytes) w.1
+    by : ((is_of kind.Double c ≡ true) × (length (entries_of c) ≡ 2)) ⊎ ((is_of kind.Double c ≡ false) × (length (entries_of c) ≡ 1))
+        → entries_at (1 - length (entries_of c)) bytes ≡ Ok ([], bytes)
+    by (inl w) = ap (λ n. entries_at (1 - n) bytes) w.1
+    by (inr w) = ap (λ n. entries_at (1 - n) bytes) w.1
 
--- a constant with its places, and what comes after it
-pub places_more : (left : ℕ) (bytes : List ℕ) → 0 < left
-    → places_at left bytes ≡ (constant_at (left == 1) bytes >>= λ one. with_front (places one.0) (places_at (left - length (places one.0)) one.1))
-unfolding places_at
-places_more zero bytes l = absurd (omega arith)
-places_more (suc zero) bytes l = by (constant_at true bytes)
+-- a constant with its entries, and what comes after it
+pub entries_more : (left : ℕ) (bytes : List ℕ) → 0 < left
+    → entries_at left bytes ≡ (constant_at (left == 1) bytes >>= λ one. with_front (entries_of one.0) (entries_at (left - length (entries_of one.0)) one.1))
+unfolding entries_at
+entries_more zero bytes l = absurd (omega arith)
+entries_more (suc zero) bytes l = by (constant_at true bytes)
   where
     by : (r : Read Const)
-        → (r >>= λ one. Ok (places one.0, one.1)) ≡ (r >>= λ one. with_front (places one.0) (places_at (1 - length (places one.0)) one.1))
+        → (r >>= λ one. Ok (entries_of one.0, one.1)) ≡ (r >>= λ one. with_front (entries_of one.0) (entries_at (1 - length (entries_of one.0)) one.1))
     by (Ok one) =
-        sym (ap (with_front (places one.0)) (none_left one.0 one.1) ∙ ap (λ xs. Ok (xs, one.1)) (append-nil (places one.0)))
+        sym (ap (with_front (entries_of one.0)) (none_left one.0 one.1) ∙ ap (λ xs. Ok (xs, one.1)) (append-nil (entries_of one.0)))
     by (Err f) = refl
-places_more (suc (suc n)) bytes l = ap (λ b. constant_at b bytes >>= step) (sym (ne_eqb (suc (suc n)) 1 (λ e. omega arith))) ∙ by (constant_at (suc (suc n) == 1) bytes)
+entries_more (suc (suc n)) bytes l = ap (λ b. constant_at b bytes >>= step) (sym (ne_eqb (suc (suc n)) 1 (λ e. omega arith))) ∙ by (constant_at (suc (suc n) == 1) bytes)
   where
     step : Const × List ℕ → Read (List Const)
-    step one = with_front (places one.0) (others_of n one)
+    step one = with_front (entries_of one.0) (others_of n one)
 
-    by : (r : Read Const) → (r >>= step) ≡ (r >>= λ one. with_front (places one.0) (places_at (suc (suc n) - length (places one.0)) one.1))
-    by (Ok one) = ap (with_front (places one.0)) (others_are n one)
+    by : (r : Read Const) → (r >>= step) ≡ (r >>= λ one. with_front (entries_of one.0) (entries_at (suc (suc n) - length (entries_of one.0)) one.1))
+    by (Ok one) = ap (with_front (entries_of one.0)) (others_are n one)
     by (Err f) = refl
 
 twice : {A : Type 0} (front next : List A) (read : Read (List A)) → with_front front (with_front next read) ≡ with_front (front ++ next) read
 twice front next (Ok x) = ap (λ xs. Ok (xs, x.1)) (sym (append_assoc front next x.0))
 twice front next (Err f) = refl
 
-pub places_go : (front : List Const) (left : ℕ) (bytes after : List ℕ) (c : Const) (total : Read (List Const)) → 0 < left
-    → constant_at (left == 1) bytes ≡ Ok (c, after) → with_front front (places_at left bytes) ≡ total
-    → with_front (front ++ places c) (places_at (left - length (places c)) after) ≡ total
-places_go front left bytes after c total l h so_far =
-    sym (twice front (places c) (places_at (left - length (places c)) after))
-    ∙ ap (λ (r : Read Const). with_front front (r >>= λ one. with_front (places one.0) (places_at (left - length (places one.0)) one.1))) (sym h)
-    ∙ ap (with_front front) (sym (places_more left bytes l)) ∙ so_far
+pub entries_go : (front : List Const) (left : ℕ) (bytes after : List ℕ) (c : Const) (total : Read (List Const)) → 0 < left
+    → constant_at (left == 1) bytes ≡ Ok (c, after) → with_front front (entries_at left bytes) ≡ total
+    → with_front (front ++ entries_of c) (entries_at (left - length (entries_of c)) after) ≡ total
+entries_go front left bytes after c total l h so_far =
+    sym (twice front (entries_of c) (entries_at (left - length (entries_of c)) after))
+    ∙ ap (λ (r : Read Const). with_front front (r >>= λ one. with_front (entries_of one.0) (entries_at (left - length (entries_of one.0)) one.1))) (sym h)
+    ∙ ap (with_front front) (sym (entries_more left bytes l)) ∙ so_far
 
-pub places_end : (e : Stop) (front : List Const) (left : ℕ) (bytes : List ℕ) (total : Read (List Const)) → 0 < left
-    → Fails e (constant_at (left == 1) bytes) → with_front front (places_at left bytes) ≡ total → Fails e total
-places_end e front left bytes total l h so_far =
+pub entries_end : (e : Stop) (front : List Const) (left : ℕ) (bytes : List ℕ) (total : Read (List Const)) → 0 < left
+    → Fails e (constant_at (left == 1) bytes) → with_front front (entries_at left bytes) ≡ total → Fails e total
+entries_end e front left bytes total l h so_far =
     let first : Read Const = constant_at (left == 1) bytes in
-    let rest : Const × List ℕ → Read (List Const) = λ one. with_front (places one.0) (places_at (left - length (places one.0)) one.1) in
-    let part : Fails e (places_at left bytes) = fails_so e (first >>= rest) (places_at left bytes) (sym (places_more left bytes l)) (stops e first rest h) in
-    fails_so e (with_front front (places_at left bytes)) total so_far (stops e (places_at left bytes) (λ x. Ok (front ++ x.0, x.1)) part)
+    let rest : Const × List ℕ → Read (List Const) = λ one. with_front (entries_of one.0) (entries_at (left - length (entries_of one.0)) one.1) in
+    let part : Fails e (entries_at left bytes) = fails_so e (first >>= rest) (entries_at left bytes) (sym (entries_more left bytes l)) (stops e first rest h) in
+    fails_so e (with_front front (entries_at left bytes)) total so_far (stops e (entries_at left bytes) (λ x. Ok (front ++ x.0, x.1)) part)
 
-pub places_done : (front : List Const) (left : ℕ) (bytes : List ℕ) (total : Read (List Const)) → left ≡ 0
-    → with_front front (places_at left bytes) ≡ total → total ≡ Ok (front, bytes)
-unfolding places_at
-places_done front left bytes total l so_far =
-    sym so_far ∙ ap (λ n. with_front front (places_at n bytes)) l ∙ ap (λ xs. Ok (xs, bytes)) (append-nil front)
+pub entries_done : (front : List Const) (left : ℕ) (bytes : List ℕ) (total : Read (List Const)) → left ≡ 0
+    → with_front front (entries_at left bytes) ≡ total → total ≡ Ok (front, bytes)
+unfolding entries_at
+entries_done front left bytes total l so_far =
+    sym so_far ∙ ap (λ n. with_front front (entries_at n bytes)) l ∙ ap (λ xs. Ok (xs, bytes)) (append-nil front)

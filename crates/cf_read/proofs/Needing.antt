@@ -1,10 +1,11 @@
 -- An instruction that needs an entry doesn't jump, so it is the same with offsets and with numbers.
-use Rattle.std.proofs.Common.{◌≡◌, refl, sym, ap, ◌∙◌, subst, ℕ, ◌+◌, ◌<◌, ◌≤◌, ◌⊎◌, inl, inr, List, [], ◌∷◌, arith, Option, None, Some, Bool, true, false}
-use Rattle.std.specs.Prelude.{◌&&◌, IfSome, IsTrue}
+use Rattle.std.proofs.Common.{◌≡◌, refl, sym, ap, ◌∙◌, subst, ℕ, ◌+◌, ◌<◌, ◌≤◌, zero, suc, ◌⊎◌, inl, inr, List, [], ◌∷◌, length, take, get_or, arith, Option, None, Some, Bool, true, false}
+use Rattle.std.specs.Prelude.{◌&&◌, IfSome, IsTrue, MatchOption}
 use Rattle.std.specs.Option.{is_some}
 use Rattle.std.specs.List.{AllByRecursion}
 use Rattle.std.proofs.lemmas.Bool.{agree_below_at, cases_lt, cases_Bool, cond-false}
 use Rattle.std.proofs.lemmas.Bool.Decides.{nat_tests}
+use Rattle.std.proofs.lemmas.List.{take_more, take_all}
 use Rattle.cf_form.specs.Opcodes.{shape_of}
 use Rattle.cf_form.specs.Pool.{kind_needed, names}
 use Rattle.cf_form.specs.ClassFiles.{NamesWell}
@@ -13,8 +14,9 @@ use Rattle.cf_form.specs.declared.constant.Const.{Const}
 use Rattle.cf_form.specs.declared.kind.Kind.{Kind}
 use Rattle.cf_form.specs.declared.instr.Instr.{Instr}
 use Rattle.cf_instr.proofs.Codes.{raws, code_bytes-is}
-use Rattle.cf_instr.proofs.Offsets.{jumps-is, with_offset-op}
-use Rattle.cf_read.specs.Looking.{AllNameWell}
+use Rattle.cf_instr.proofs.Targets.{jumps-is, with_offset-op}
+use Rattle.cf_read.specs.Looking.{AllNameWell, IsUnnamedAt}
+use Rattle.cf_read.proofs.Parses.{all_push}
 
 both : ℕ → Bool
 both op = is_some (kind_needed op) && jumps_by (shape_of op)
@@ -78,3 +80,21 @@ all_names_back pool code at (i ∷ is) h = (names_back pool code at i h.0, all_n
 pub code_names : (pool : List Const) (code : List ℕ) (instrs : List Instr) → IsCode instrs → code ≡ code_bytes instrs → AllNameWell pool code
     → AllByRecursion (NamesWell pool) instrs
 code_names pool code instrs h e named = all_names pool instrs 0 instrs (named (raws instrs) [] h.fits (e ∙ code_bytes-is instrs))
+
+-- what the way through the bytes of a code tells of its instructions
+pub unnamed_of : (pool : List Const) (code : List ℕ) (instrs : List Instr) (r : Option ℕ) → IsCode instrs → code ≡ code_bytes instrs → MatchOption r (AllNameWell pool code) (IsUnnamedAt pool code)
+    → MatchOption r (AllByRecursion (NamesWell pool) instrs) (IsUnnamedAt pool code)
+unnamed_of pool code instrs None c e h = code_names pool code instrs c e h
+unnamed_of pool code instrs (Some at) c e h = h
+
+-- one more that names what it needs
+pub all_more : {A : Type 0} (P : A → Type 0) (xs : List A) (n : ℕ) (x : A) → n < length xs → AllByRecursion P (take n xs) → P (get_or xs n x) → AllByRecursion P (take (n + 1) xs)
+all_more P xs n x lt h p = rw (take_more xs n x lt) (all_push P (take n xs) (get_or xs n x) h p)
+
+pub all_done : {A : Type 0} (P : A → Type 0) (xs : List A) (n : ℕ) → length xs ≤ n → AllByRecursion P (take n xs) → AllByRecursion P xs
+all_done P xs n le h = rw (take_all n xs le) at h
+
+pub all_at : {A : Type 0} (P : A → Type 0) (xs : List A) (n : ℕ) (x : A) → n < length xs → AllByRecursion P xs → P (get_or xs n x)
+all_at P [] n x lt h = absurd (omega (arith, lt))
+all_at P (y ∷ xs) zero x lt h = h.0
+all_at P (y ∷ xs) (suc n) x lt h = all_at P xs n x (omega (arith, lt)) h.1

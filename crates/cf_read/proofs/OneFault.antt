@@ -8,7 +8,7 @@ use Rattle.std.proofs.lemmas.List.Concat.{flat_map-append}
 use Rattle.std.proofs.Math.Seq.{drop-append_seam}
 use Rattle.cf_form.specs.ClassFiles.{Each, NamesWell, Reads}
 use Rattle.cf_form.specs.declared.class_file.ClassFile.{ClassFile}
-use Rattle.cf_form.specs.Instructions.{bytes_of, Fits, place, jumps, number}
+use Rattle.cf_form.specs.Instructions.{bytes_of, Fits, offset, jumps, number}
 use Rattle.cf_form.specs.Pool.{kind_needed, names}
 use Rattle.cf_form.specs.Outline.{Row}
 use Rattle.cf_form.specs.declared.class_file.MethodInfo.{MethodInfo}
@@ -23,7 +23,7 @@ use Rattle.cf_instr.proofs.Codes.{one_code}
 use Rattle.cf_instr.proofs.Excluding.{one_fault, not_code}
 use Rattle.cf_instr.proofs.Faulty.{stuck}
 use Rattle.cf_instr.proofs.Parsing.{one_instr}
-use Rattle.cf_instr.proofs.Sizes.{size-within, place-cons, place-zero}
+use Rattle.cf_instr.proofs.Sizes.{size-within, offset-cons, offset-zero}
 use Rattle.cf_read.specs.Codes.{IsMethodRead, IsBad, Refused, Unnamed, Table, IsBadMethod, IsBadCode, IsBadIndex, IsBadTable, IsRefusedAt, RowFits, IsBadRow, From, To, Target, Caught}
 use Rattle.cf_read.specs.FileFaults.{IsMet, IsMetAt, IsFaultBy, IsFileFault}
 use Rattle.cf_read.specs.Reading.{Found, MethodOutline, FileOutline}
@@ -32,7 +32,7 @@ use Rattle.cf_read.specs.declared.fault.Fault.{Fault}
 use Rattle.cf_read.specs.declared.file_fault.FileKind.{FileKind}
 use Rattle.cf_read.specs.declared.file_fault.FileKind.TheVariants as fault
 use Rattle.cf_read.proofs.Needing.{needs_none}
-use Rattle.cf_read.proofs.Determined.{has_at, row_apart, index_apart, code_apart, met_apart}
+use Rattle.cf_read.proofs.Determined.{has_at, row_apart, index_apart, code_apart, met_apart, whole_same}
 use Rattle.cf_read.proofs.AgainFile.{reads_again}
 
 -- ---- a row, and a table
@@ -75,7 +75,7 @@ one_table pool code rows k l a b t u = by (cases_lt t.n u.n) (cases_lt u.n t.n)
         let n : t.n ≡ u.n = omega arith in
         let row : t.row ≡ u.row = (let h = sym t.here ∙ ap (slice_get rows) n ∙ u.here in cc) in
         let p = one_row pool code u.row k l t.within u.within (subst (λ r. IsBadRow pool code r k t.within) row t.bad) u.bad in
-        (p.0, (let x = t.place in let y = u.place in let z = p.1 in omega (arith, x, y, z, n)))
+        (p.0, (let x = t.offset in let y = u.offset in let z = p.1 in omega (arith, x, y, z, n)))
 
 -- ---- a code
 
@@ -87,14 +87,14 @@ record StandsAt (raws : List Instr) (n : ℕ) (x : Instr) : Type 0 where
   before : List Instr
   after : List Instr
   is : raws ≡ before ++ x ∷ after
-  here : place raws n ≡ length (flat_map bytes_of before)
+  here : offset raws n ≡ length (flat_map bytes_of before)
 
 stands_at : (raws : List Instr) (n : ℕ) (x : Instr) → slice_get raws n ≡ Some x → StandsAt raws n x
 stands_at [] n x e = absurd cc
-stands_at (y ∷ ys) zero x e = let same : y ≡ x = cc in record { before = []; after = ys; is = ap (λ z. z ∷ ys) same; here = place-zero (y ∷ ys) }
+stands_at (y ∷ ys) zero x e = let same : y ≡ x = cc in record { before = []; after = ys; is = ap (λ z. z ∷ ys) same; here = offset-zero (y ∷ ys) }
 stands_at (y ∷ ys) (suc n) x e =
     let r = stands_at ys n x e in
-    record { before = y ∷ r.before; after = r.after; is = ap (λ zs. y ∷ zs) r.is; here = omega (arith, place-cons y ys n, r.here, length-append (bytes_of y) (flat_map bytes_of r.before)) }
+    record { before = y ∷ r.before; after = r.after; is = ap (λ zs. y ∷ zs) r.is; here = omega (arith, offset-cons y ys n, r.here, length-append (bytes_of y) (flat_map bytes_of r.before)) }
 
 -- an instruction that doesn't name what it needs doesn't jump, and nothing is refused where it begins
 module _ (pool : List Const) (code : List ℕ) (front : List Instr) (instr : Instr) (rest : List ℕ) (fits : Fits instr)
@@ -266,3 +266,7 @@ pub fault_apart : (bytes : List ℕ) (f : FileFault) (file : ClassFile) → IsFi
 fault_apart bytes f file h n r =
     let p = met_at bytes f.kind f.at h n in
     met_apart bytes (record { kind = f.kind; left = p.0 }) file p.1 (reads_again bytes file r)
+
+-- the bytes say one file
+pub one_file : (bytes : List ℕ) (f g : ClassFile) → Reads bytes f → Reads bytes g → f ≡ g
+one_file bytes f g h k = whole_same bytes f g (reads_again bytes f h) (reads_again bytes g k)

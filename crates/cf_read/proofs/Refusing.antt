@@ -13,7 +13,7 @@ use Rattle.cf_instr.specs.declared.code_fault.CodeFault.{CodeFault}
 use Rattle.cf_instr.specs.declared.code_fault.CodeKind.{CodeKind}
 use Rattle.cf_instr.specs.declared.code_fault.CodeKind.TheVariants as kinds
 use Rattle.cf_instr.proofs.Excluding.{one_fault, not_code}
-use Rattle.cf_instr.proofs.Sizes.{place-is}
+use Rattle.cf_instr.proofs.Sizes.{offset-is}
 use Rattle.cf_read.specs.Codes.{IsRefusedAt, IsBadCode, IsBadIndex}
 use Rattle.cf_read.specs.Looking.{AllNameWell, IsUnnamedAt}
 use Rattle.cf_read.proofs.Parses.{all_push, shorter_has}
@@ -40,7 +40,7 @@ jumps_behind code at h = record {
   rest = flat_map bytes_of (drop h.n h.raws);
   fits = fits_front h.n h.raws h.fits;
   splits = h.parts ∙ ap (flat_map bytes_of) (sym (take-append-drop h.n h.raws)) ∙ flat_map-append bytes_of (take h.n h.raws) (drop h.n h.raws);
-  before = sym (h.here ∙ place-is h.raws h.n);
+  before = sym (h.here ∙ offset-is h.raws h.n);
 }
 
 pub behind_fault : (code : List ℕ) (at : ℕ) (kind : CodeKind) → kind ≢ kinds.Memory → FaultAt code at kind → StandBefore code at

@@ -1,19 +1,20 @@
 -- Rows of an exception table, and the handlers that they are.
-use Rattle.std.proofs.Common.{◌≡◌, refl, sym, ap, ◌∙◌, subst, ℕ, ◌+◌, ◌*◌, ◌<◌, ◌≤◌, List, [], ◌∷◌, length, take, drop, map, get_or, length-take, arith}
+use Rattle.std.proofs.Common.{◌≡◌, refl, sym, ap, ◌∙◌, subst, ℕ, ◌+◌, ◌*◌, ◌<◌, ◌≤◌, List, [], ◌∷◌, length, take, drop, map, get_or, arith}
 use Rattle.std.specs.Prelude.{◌≢◌, option_map}
 use Rattle.std.specs.List.{AllByRecursion, flat_map}
-use Rattle.std.proofs.lemmas.List.{append-nil, get_or-take, take-map}
+use Rattle.std.proofs.lemmas.List.{append-nil, take-map}
 use Rattle.std.proofs.lemmas.Option.{slice_get-map, slice_get-get_or}
-use Rattle.cf_form.specs.Instructions.{place, IsCode, code_bytes, bytes_of}
+use Rattle.cf_form.specs.Instructions.{offset, IsCode, code_bytes, bytes_of}
 use Rattle.cf_form.specs.ClassFiles.{row_of, HandlerFits, NamesWell}
 use Rattle.cf_form.specs.declared.code.Handler.{Handler}
 use Rattle.cf_form.specs.declared.constant.Const.{Const}
 use Rattle.cf_form.specs.declared.instr.Instr.{Instr}
-use Rattle.cf_instr.proofs.Codes.{raws, code_bytes-is, place-with_offsets}
-use Rattle.cf_instr.proofs.Offsets.{length-with_offsets}
-use Rattle.cf_instr.proofs.Sizes.{place-all, count-le}
-use Rattle.cf_read.specs.Codes.{IsBeginning, IsBoundary, RowFits, IsBadRow, IsBadTable, IsBad, Table}
-use Rattle.cf_read.specs.Looking.{ArePlaces, AreHandlers, IsTableStop, IsCodeStop}
+use Rattle.cf_instr.specs.Offsets.{AreOffsets}
+use Rattle.cf_instr.proofs.Codes.{raws, code_bytes-is, offset-with_offsets}
+use Rattle.cf_instr.proofs.Targets.{length-with_offsets}
+use Rattle.cf_instr.proofs.Sizes.{offset-all, count-le}
+use Rattle.cf_read.specs.Codes.{IsBoundary, RowFits, IsBadRow, IsBadTable, IsBad, Table}
+use Rattle.cf_read.specs.Looking.{AreHandlers, IsTableStop, IsCodeStop}
 use Rattle.cf_read.specs.Reading.{Found}
 use Rattle.cf_read.specs.Views.{row_of as parts_of}
 use Rattle.cf_read.specs.declared.fault.Fault.{Fault}
@@ -22,31 +23,13 @@ use Rattle.cf_read.specs.declared.fault.Stop.TheVariants as stop
 use Rattle.cf_read.specs.declared.file_fault.FileKind.{FileKind}
 use Rattle.cf_read.specs.declared.parts.RowParts.{RowParts}
 
--- the places of a code, the last one left out
-abbrev pub beginnings : List Instr → List ℕ → List ℕ
-beginnings code starts = take (length code) starts
-
-begun : (code : List Instr) (starts : List ℕ) → ArePlaces code starts → length (beginnings code starts) ≡ length code
-begun code starts h = omega (arith, length-take (length code) starts, h.many)
-
-pub begins : (code : List Instr) (starts : List ℕ) (at n : ℕ) → ArePlaces code starts
-    → (n < length (beginnings code starts)) × (get_or (beginnings code starts) n 0 ≡ at) → (n < length code) × (place code n ≡ at)
-begins code starts at n h f =
-    let below : n < length code = omega (arith, begun code starts h, f.0) in
-    (below, sym (h.each n (omega arith)) ∙ sym (get_or-take (length code) starts n 0 below) ∙ f.1)
-
-pub begins_not : (code : List Instr) (starts : List ℕ) (at : ℕ) → ArePlaces code starts
-    → ((k : ℕ) → k < length (beginnings code starts) → get_or (beginnings code starts) k 0 ≢ at) → ¬ (IsBeginning code at)
-begins_not code starts at h f b =
-    f b.0 (omega (arith, begun code starts h, b.1)) (get_or-take (length code) starts b.0 0 b.1 ∙ h.each b.0 (omega (arith, b.1)) ∙ b.2)
-
-pub bounds : (code : List Instr) (starts : List ℕ) (at n : ℕ) → ArePlaces code starts
-    → (n < length starts) × (get_or starts n 0 ≡ at) → (n ≤ length code) × (place code n ≡ at)
+pub bounds : (code : List Instr) (starts : List ℕ) (at n : ℕ) → AreOffsets code starts
+    → (n < length starts) × (get_or starts n 0 ≡ at) → (n ≤ length code) × (offset code n ≡ at)
 bounds code starts at n h f =
     let below : n ≤ length code = omega (arith, h.many, f.0) in
     (below, sym (h.each n below) ∙ f.1)
 
-pub bounds_not : (code : List Instr) (starts : List ℕ) (at : ℕ) → ArePlaces code starts
+pub bounds_not : (code : List Instr) (starts : List ℕ) (at : ℕ) → AreOffsets code starts
     → ((k : ℕ) → k < length starts → get_or starts k 0 ≢ at) → ¬ (IsBoundary code at)
 bounds_not code starts at h f b = f b.0 (omega (arith, h.many, b.1)) (h.each b.0 b.1 ∙ b.2)
 
@@ -61,12 +44,12 @@ rows_right pool code (h ∷ hs) f = (row_right pool code h f.0, rows_right pool 
 
 -- a code has no more instructions than bytes
 pub code_within : (code : List ℕ) (instrs : List Instr) (n : ℕ) → IsCode instrs → code ≡ code_bytes instrs → length code ≤ n
-    → (place instrs (length instrs) ≤ n) × (length instrs ≤ n)
+    → (offset instrs (length instrs) ≤ n) × (length instrs ≤ n)
 code_within code instrs n h e l =
     let many = length-with_offsets instrs 0 instrs in
     let bytes : length code ≡ length (flat_map bytes_of (raws instrs)) = ap length (e ∙ code_bytes-is instrs ∙ append-nil (flat_map bytes_of (raws instrs))) in
-    let last : place instrs (length instrs) ≡ place (raws instrs) (length (raws instrs)) = sym (place-with_offsets instrs 0 instrs (length instrs)) ∙ ap (place (raws instrs)) (sym many) in
-    (omega (arith, last, place-all (raws instrs), bytes), omega (arith, many, count-le (raws instrs) h.fits, bytes))
+    let last : offset instrs (length instrs) ≡ offset (raws instrs) (length (raws instrs)) = sym (offset-with_offsets instrs 0 instrs (length instrs)) ∙ ap (offset (raws instrs)) (sym many) in
+    (omega (arith, last, offset-all (raws instrs), bytes), omega (arith, many, count-le (raws instrs) h.fits, bytes))
 
 -- the first wrong row
 pub table_stop : (pool : List Const) (code : List Instr) (rows : List RowParts) (hs : List Handler) (n : ℕ) (d : RowParts) (kind : FileKind) (within : ℕ) (from : List ℕ)
@@ -81,7 +64,7 @@ table_stop pool code rows hs n d kind within from l h bad =
       before = right;
       within = within;
       bad = bad;
-      place = refl;
+      offset = refl;
     } in
     (8 * n + within, table, refl)
 

@@ -1,5 +1,5 @@
 -- Members have the same number exactly where their keys are the same.
-use Rattle.std.proofs.Common.{◌≡◌, refl, ap, ◌∙◌, ℕ, ◌+◌, ◌*◌, ◌^◌, ◌<◌, List, [], ◌∷◌, ◌++◌, map, Bool, arith}
+use Rattle.std.proofs.Common.{◌≡◌, ◌≢◌, refl, ap, ◌∙◌, ℕ, ◌+◌, ◌*◌, ◌^◌, ◌<◌, List, [], ◌∷◌, length, map, Bool, arith}
 use Rattle.std.specs.Prelude.{◌==◌, ◌&&◌, ◌||◌}
 use Rattle.std.specs.BTreeSet as sorted
 use Rattle.std.specs.BTreeSet.{BTreeSet}
@@ -38,7 +38,13 @@ module _ (pool : List Const) (texts : List ℕ) (name descriptor : ℕ) (numbere
   seen_same keys numbers k r seen e h =
       h ∙ ap (λ n. sorted.contains nat_cmp numbers n) e ∙ seen (member_number texts (name, descriptor)) ∙ same_members keys
 
--- a member that is seen, in a loop that keeps the members in a list
-pub seen_push : (texts same : List ℕ) (old new : BTreeSet ℕ) (keys more : List (ℕ × ℕ)) (key : ℕ × ℕ) → same ≡ texts → more ≡ keys ++ key ∷ [] → ((ks : List (ℕ × ℕ)) → AreSeen same old ks → AreSeen same new (ks ++ key ∷ [])) → AreSeen texts old keys → AreSeen texts new more
-seen_push texts same old new keys more key e f h seen =
-    rw f (let g : (ks : List (ℕ × ℕ)) → AreSeen texts old ks → AreSeen texts new (ks ++ key ∷ []) = rw e at h in g keys seen)
+-- before the first member nothing is seen, and no number is asked for
+pub seen_all : (pool : List Const) (texts : List ℕ) (name descriptor : ℕ) (keys : List (ℕ × ℕ)) (numbers : BTreeSet ℕ) (k : ℕ) (r : Bool) → (keys ≢ [] → NumbersTexts pool texts)
+    → AreSeen texts numbers keys → k ≡ member_number texts (name, descriptor) → r ≡ sorted.contains nat_cmp numbers k → r ≡ list_any (same_key (key_of pool name descriptor)) (map (key_at pool) keys)
+seen_all pool texts name descriptor [] numbers k r numbered seen e h = h ∙ seen k
+seen_all pool texts name descriptor (key ∷ keys) numbers k r numbered seen e h = seen_same pool texts name descriptor (numbered (λ n. absurd cc)) (key ∷ keys) numbers k r seen e h
+
+-- a list of members has numbers before its second
+pub numbers_before : (pool : List Const) (texts : List ℕ) (keys : List (ℕ × ℕ)) (count i : ℕ) → i < count → length keys ≡ i → (1 < count → NumbersTexts pool texts) → keys ≢ [] → NumbersTexts pool texts
+numbers_before pool texts [] count i lt many h some = absurd (some refl)
+numbers_before pool texts (key ∷ keys) count i lt many h some = h (omega (arith, lt, many))

@@ -1,14 +1,15 @@
 -- What is read is spelled so: numbers and constants.
 use Rattle.std.proofs.Common.{◌≡◌, refl, sym, ap, ◌∙◌, subst, ℕ, suc, ◌+◌, ◌^◌, ◌<◌, ◌≤◌, inl, inr, List, [], ◌∷◌, ◌++◌, length, get_or, take, drop, Option, None, Some, Result, Ok, Err, Bool, true, false, append_assoc, rules, arith}
-use Rattle.std.specs.Prelude.{nat_lt, ◌==◌, ◌&&◌, ◌||◌, nat_le, not, FitsSigned, if◌then◌else◌}
+use Rattle.std.specs.Prelude.{nat_lt, ◌==◌, ◌&&◌, ◌||◌, not, IsTrue, FitsSigned, if◌then◌else◌}
 use Rattle.std.specs.Int.{w16, w32, w64, from_be_bytes, to_be_bytes, cast_signed, cast_unsigned}
-use Rattle.std.proofs.lemmas.Bool.{cases_lt, ltb-false, leb-true, eqb-true, and_parts}
+use Rattle.std.proofs.lemmas.Bool.{cases_lt, ltb-false, eqb-true}
 use Rattle.std.proofs.lemmas.Int.{ints, of_z-to_z}
 use Rattle.std.proofs.lemmas.List.{take-append-drop, length-take, get_or-drop, get_or-take, get_or_past}
 use Rattle.std.proofs.lemmas.Nat.{be_bytes_2, be_bytes_4, be_bytes_8}
 use Rattle.cf_mutf8.specs.ModifiedUtf8.{encoded}
 use Rattle.cf_mutf8.specs.Decoded.{decoded}
 use Rattle.cf_mutf8.proofs.FirstCharacters.{decoded_iff}
+use Rattle.cf_form.specs.ClassFiles.{is_version}
 use Rattle.cf_form.specs.Pool.{u2, u4, Fits2, constant_bytes, ConstantFits, is_of}
 use Rattle.cf_form.specs.declared.constant.Const.{Const}
 use Rattle.cf_form.specs.declared.constant.Const.TheVariants.{Class, Text, Field, Method, Interface, NameType}
@@ -116,7 +117,7 @@ magic_takes bytes h =
     given_demand Q (x.0 == 0xCAFEBABE) fault.Magic bytes _ (λ e. subst (λ n. Takes bytes (u4 n) x.1) (eqb-true x.0 0xCAFEBABE e) p.0))
 
 abbrev pub VersionTaken : List ℕ → (ℕ × ℕ) × List ℕ → Type 0
-VersionTaken bytes x = Takes bytes (u2 x.0.0 ++ u2 x.0.1) x.1 × (x.0.0 < 2 ^ 16) × (45 ≤ x.0.1) × (x.0.1 ≤ 49)
+VersionTaken bytes x = Takes bytes (u2 x.0.0 ++ u2 x.0.1) x.1 × Fits2 x.0.0 × Fits2 x.0.1 × IsTrue (is_version x.0.1)
 
 pub version_takes : (bytes : List ℕ) → IsBytes bytes → Given (VersionTaken bytes) (version_at bytes)
 unfolding version_at
@@ -124,9 +125,8 @@ version_takes bytes h =
     let Q = VersionTaken bytes in
     given_bind _ Q (u2_at bytes) _ (u2_takes bytes h) (λ a p.
     given_bind _ Q (u2_at a.1) _ (u2_takes a.1 p.0.fits) (λ b q.
-    given_demand Q (nat_le 45 b.0 && nat_le b.0 49) fault.Version a.1 _ (λ e.
-    let both = and_parts (nat_le 45 b.0) (nat_le b.0 49) e in
-    (then_takes bytes (u2 a.0) a.1 (u2 b.0) b.1 p.0 q.0, p.1, leb-true 45 b.0 both.0, leb-true b.0 49 both.1))))
+    given_demand Q (is_version b.0) fault.Version a.1 _ (λ e.
+    (then_takes bytes (u2 a.0) a.1 (u2 b.0) b.1 p.0 q.0, p.1, q.1, e))))
 
 -- ---- constants
 

@@ -5,7 +5,7 @@ use Rattle.std.specs.List.{flat_map, AllByRecursion}
 use Rattle.std.proofs.lemmas.Bool.{or_cases, eqb-true, eqb-false, not-true, not-false}
 use Rattle.std.proofs.lemmas.List.{append-nil, nil_from_length}
 use Rattle.cf_form.specs.Pool.{u2, Fits2, names, pool_of, refers_well, constant_bytes, ConstantFits}
-use Rattle.cf_form.specs.ClassFiles.{IsField, IsMethod, IsCodeDue, IsWithoutCode, HasCodeOrNone, AreNamed, Each, Says, Reads}
+use Rattle.cf_form.specs.ClassFiles.{IsField, IsMethod, IsCodeDue, IsWithoutCode, HasCodeOrNone, AreNamed, Each, is_version, Says, Reads}
 use Rattle.cf_form.specs.Outline.{counted, AllFit, Attribute, attribute_bytes, AttributeFits, Member, member_bytes, MemberFits, Outline, outline_bytes, OutlineFits}
 use Rattle.cf_form.specs.declared.class_file.ClassFile.{ClassFile}
 use Rattle.cf_form.specs.declared.class_file.MethodInfo.{MethodInfo}
@@ -90,8 +90,8 @@ record HeadTaken (bytes : List ℕ) (x : ((ℕ × ℕ) × List Const) × List �
   pub many : length (pool_of constants) ≡ count - 1
   pub refers : AllByRecursion (λ c. IsTrue (refers_well x.0.1 c)) constants
   pub minor : x.0.0.0 < 2 ^ 16
-  pub not_older : 45 ≤ x.0.0.1
-  pub not_newer : x.0.0.1 ≤ 49
+  pub major : Fits2 x.0.0.1
+  pub version : IsTrue (is_version x.0.0.1)
   pub takes : Takes bytes (magic ++ (u2 x.0.0.0 ++ u2 x.0.0.1) ++ u2 count ++ flat_map constant_bytes constants) x.1
 
 head_takes : (bytes : List ℕ) → IsBytes bytes → Given (HeadTaken bytes) (head_at bytes)
@@ -104,8 +104,8 @@ head_takes bytes h =
   where
     refers : (v : List ℕ) (pool : List Const × List ℕ) (r : CountedPool v pool) → Given (λ _. AllByRecursion (λ c. IsTrue (refers_well pool.0 c)) r.pool.constants) (all_references_at pool.0 pool.0 (drop 2 v))
     refers v pool r =
-        let place : drop 2 v ≡ flat_map constant_bytes r.pool.constants ++ pool.1 = ap (drop 2) r.first.parts ∙ r.pool.takes.parts in
-        subst (λ b. Given (λ _. AllByRecursion (λ c. IsTrue (refers_well pool.0 c)) r.pool.constants) (all_references_at pool.0 pool.0 b)) (sym place)
+        let pool_is : drop 2 v ≡ flat_map constant_bytes r.pool.constants ++ pool.1 = ap (drop 2) r.first.parts ∙ r.pool.takes.parts in
+        subst (λ b. Given (λ _. AllByRecursion (λ c. IsTrue (refers_well pool.0 c)) r.pool.constants) (all_references_at pool.0 pool.0 b)) (sym pool_is)
         (subst (λ cs. Given (λ _. AllByRecursion (λ c. IsTrue (refers_well pool.0 c)) r.pool.constants) (all_references_at pool.0 cs (flat_map constant_bytes r.pool.constants ++ pool.1))) (sym r.pool.are)
         (all_refer pool.0 r.pool.constants pool.1 r.pool.fits))
 
@@ -124,8 +124,8 @@ head_takes bytes h =
           many = r.pool.many;
           refers = s;
           minor = q.1;
-          not_older = q.2;
-          not_newer = q.3;
+          major = q.2;
+          version = q.3;
           takes = then_takes bytes (magic ++ (u2 v.0.0 ++ u2 v.0.1) ++ u2 r.count) r.behind (flat_map constant_bytes r.pool.constants) pool.1 b r.pool.takes;
         })
 
@@ -138,8 +138,8 @@ pub record OutlineTaken (bytes : List ℕ) (o : FileOutline) : Type 0 where
   pub count : Fits2 (1 + length (pool_of constants))
   pub refers : AllByRecursion (λ c. IsTrue (refers_well o.pool c)) constants
   pub minor : Fits2 o.minor
-  pub not_older : 45 ≤ o.major
-  pub not_newer : o.major ≤ 49
+  pub major : Fits2 o.major
+  pub version : IsTrue (is_version o.major)
   pub access : Fits2 o.access
   pub this : Fits2 o.this
   pub is_class : IsTrue (names o.pool kind.Class o.this)
@@ -208,8 +208,8 @@ outline_takes bytes h =
       count = omega (arith, size, p.below);
       refers = p.refers;
       minor = p.minor;
-      not_older = p.not_older;
-      not_newer = p.not_newer;
+      major = p.major;
+      version = p.version;
       access = q.1;
       this = r.1;
       is_class = r.2;
@@ -258,8 +258,7 @@ file_found bytes o file t r =
     let says : Says outline file = record {
       minor = r.minor;
       major = r.major;
-      not_older = omega (arith, t.not_older, r.major);
-      not_newer = omega (arith, t.not_newer, r.major);
+      version = subst (λ n. IsTrue (is_version n)) r.major t.version;
       pool = sym t.are ∙ e;
       refers = subst (λ pool. AllByRecursion (λ c. IsTrue (refers_well pool c)) t.constants) e t.refers;
       access = r.access;
@@ -276,6 +275,7 @@ file_found bytes o file t r =
     } in
     let fits : OutlineFits outline = record {
       minor = t.minor;
+      major = t.major;
       constants = t.constant_fits;
       count = t.count;
       access = t.access;

@@ -6,18 +6,18 @@ use Rattle.std.specs.Int.{w16, from_be_bytes}
 use Rattle.std.proofs.lemmas.Bool.{cond-true, cond-false, and_from, le-ltb}
 use Rattle.std.proofs.lemmas.List.{append-nil, drop_at, take_at}
 use Rattle.std.proofs.lemmas.Nat.{from_be_bytes-to_be_bytes_2}
-use Rattle.cf_form.specs.Pool.{u2, Fits2, constant_bytes, ConstantFits, is_of, places, pool_of, names, refers_well}
+use Rattle.cf_form.specs.Pool.{u2, Fits2, constant_bytes, ConstantFits, is_of, entries_of, pool_of, names, refers_well}
 use Rattle.cf_form.specs.declared.constant.Const.{Const}
 use Rattle.cf_form.specs.declared.constant.Const.TheVariants.{Utf8, Int, Float, Long, Double, Class, Text, Field, Method, Interface, NameType, Rest}
 use Rattle.cf_form.specs.declared.kind.Kind.{Kind}
 use Rattle.cf_form.specs.declared.kind.Kind.TheVariants as kind
 use Rattle.cf_read.specs.declared.fault.Fault.{Fault}
 use Rattle.cf_read.specs.declared.file_fault.FileKind.TheVariants as fault
-use Rattle.cf_read.specs.Reading.{Read, ◌>>=◌, demand, some_at, u2_at, constant_at, places_at, pool_at, index_at, indexes_at, references_at, all_references_at}
+use Rattle.cf_read.specs.Reading.{Read, ◌>>=◌, demand, some_at, u2_at, constant_at, entries_at, pool_at, index_at, indexes_at, references_at, all_references_at}
 use Rattle.cf_read.proofs.Loops.{count_of}
 use Rattle.cf_read.proofs.Takes.{Given, given_bind, given_demand, IsBytes, Takes, then_takes, takes_text, NumberTaken, u2_takes, constant_takes, ConstantTaken}
 
--- constants of so many places
+-- constants of so many entries
 pub record PoolTaken (count : ℕ) (bytes : List ℕ) (x : List Const × List ℕ) : Type 0 where
   pub constants : List Const
   pub are : x.0 ≡ pool_of constants
@@ -25,64 +25,64 @@ pub record PoolTaken (count : ℕ) (bytes : List ℕ) (x : List Const × List �
   pub takes : Takes bytes (flat_map constant_bytes constants) x.1
   pub many : length (pool_of constants) ≡ count
 
-one_place : (c : Const) → is_of kind.Double c ≡ false → places c ≡ c ∷ []
-one_place (Long x) e = absurd cc
-one_place (Double bits) e = absurd cc
-one_place (Utf8 text) e = refl
-one_place (Int x) e = refl
-one_place (Float bits) e = refl
-one_place (Class name) e = refl
-one_place (Text text) e = refl
-one_place (Field class member) e = refl
-one_place (Method class member) e = refl
-one_place (Interface class member) e = refl
-one_place (NameType name descriptor) e = refl
-one_place Rest e = refl
+one_entry : (c : Const) → is_of kind.Double c ≡ false → entries_of c ≡ c ∷ []
+one_entry (Long x) e = absurd cc
+one_entry (Double bits) e = absurd cc
+one_entry (Utf8 text) e = refl
+one_entry (Int x) e = refl
+one_entry (Float bits) e = refl
+one_entry (Class name) e = refl
+one_entry (Text text) e = refl
+one_entry (Field class member) e = refl
+one_entry (Method class member) e = refl
+one_entry (Interface class member) e = refl
+one_entry (NameType name descriptor) e = refl
+one_entry Rest e = refl
 
-pool_size : (c : Const) (cs : List Const) → length (pool_of (c ∷ cs)) ≡ length (places c) + length (pool_of cs)
-pool_size c cs = length-append (places c) (pool_of cs)
+pool_size : (c : Const) (cs : List Const) → length (pool_of (c ∷ cs)) ≡ length (entries_of c) + length (pool_of cs)
+pool_size c cs = length-append (entries_of c) (pool_of cs)
 
 -- a constant, and those after it
 taken_more : (last : Bool) (count left : ℕ) (bytes : List ℕ) (one : Const × List ℕ) (x : List Const × List ℕ) → ConstantTaken last bytes one
-    → PoolTaken left one.1 x → count ≡ length (places one.0) + left → PoolTaken count bytes (places one.0 ++ x.0, x.1)
+    → PoolTaken left one.1 x → count ≡ length (entries_of one.0) + left → PoolTaken count bytes (entries_of one.0 ++ x.0, x.1)
 taken_more last count left bytes one x p q e = record {
   constants = one.0 ∷ q.constants;
-  are = ap (λ l. places one.0 ++ l) q.are;
+  are = ap (λ l. entries_of one.0 ++ l) q.are;
   fits = (p.1, q.fits);
   takes = then_takes bytes (constant_bytes one.0) one.1 (flat_map constant_bytes q.constants) x.1 p.0 q.takes;
-  many = pool_size one.0 q.constants ∙ ap (λ n. length (places one.0) + n) q.many ∙ sym e;
+  many = pool_size one.0 q.constants ∙ ap (λ n. length (entries_of one.0) + n) q.many ∙ sym e;
 }
 
 abbrev after_one : ℕ → Const × List ℕ → Read (List Const)
-after_one n one = (if is_of kind.Double one.0 then places_at n one.1 else places_at (suc n) one.1) >>= λ others. Ok (places one.0 ++ others.0, others.1)
+after_one n one = (if is_of kind.Double one.0 then entries_at n one.1 else entries_at (suc n) one.1) >>= λ others. Ok (entries_of one.0 ++ others.0, others.1)
 
 others_taken : (n : ℕ) (bytes : List ℕ) (one : Const × List ℕ) → ConstantTaken false bytes one
-    → ((is_of kind.Double one.0 ≡ true) × (length (places one.0) ≡ 2)) ⊎ ((is_of kind.Double one.0 ≡ false) × (length (places one.0) ≡ 1))
-    → Given (PoolTaken n one.1) (places_at n one.1) → Given (PoolTaken (suc n) one.1) (places_at (suc n) one.1)
+    → ((is_of kind.Double one.0 ≡ true) × (length (entries_of one.0) ≡ 2)) ⊎ ((is_of kind.Double one.0 ≡ false) × (length (entries_of one.0) ≡ 1))
+    → Given (PoolTaken n one.1) (entries_at n one.1) → Given (PoolTaken (suc n) one.1) (entries_at (suc n) one.1)
     → Given (PoolTaken (suc (suc n)) bytes) (after_one n one)
 others_taken n bytes one p (inl w) two more =
-    given_bind (PoolTaken n one.1) (PoolTaken (suc (suc n)) bytes) _ (λ others. Ok (places one.0 ++ others.0, others.1))
-    (subst (Given (PoolTaken n one.1)) (sym (cond-true (is_of kind.Double one.0) (places_at n one.1) (places_at (suc n) one.1) w.0)) two)
+    given_bind (PoolTaken n one.1) (PoolTaken (suc (suc n)) bytes) _ (λ others. Ok (entries_of one.0 ++ others.0, others.1))
+    (subst (Given (PoolTaken n one.1)) (sym (cond-true (is_of kind.Double one.0) (entries_at n one.1) (entries_at (suc n) one.1) w.0)) two)
     (λ x q. taken_more false (suc (suc n)) n bytes one x p q (omega (arith, w.1)))
 others_taken n bytes one p (inr w) two more =
-    given_bind (PoolTaken (suc n) one.1) (PoolTaken (suc (suc n)) bytes) _ (λ others. Ok (places one.0 ++ others.0, others.1))
-    (subst (Given (PoolTaken (suc n) one.1)) (sym (cond-false (is_of kind.Double one.0) (places_at n one.1) (places_at (suc n) one.1) w.0)) more)
+    given_bind (PoolTaken (suc n) one.1) (PoolTaken (suc (suc n)) bytes) _ (λ others. Ok (entries_of one.0 ++ others.0, others.1))
+    (subst (Given (PoolTaken (suc n) one.1)) (sym (cond-false (is_of kind.Double one.0) (entries_at n one.1) (entries_at (suc n) one.1) w.0)) more)
     (λ x q. taken_more false (suc (suc n)) (suc n) bytes one x p q (omega (arith, w.1)))
 
-pub places_take : (count : ℕ) (bytes : List ℕ) → IsBytes bytes → Given (PoolTaken count bytes) (places_at count bytes)
-unfolding places_at
-places_take zero bytes h = record { constants = []; are = refl; fits = tt; takes = record { parts = refl; fits = h }; many = refl }
-places_take (suc zero) bytes h =
+pub entries_take : (count : ℕ) (bytes : List ℕ) → IsBytes bytes → Given (PoolTaken count bytes) (entries_at count bytes)
+unfolding entries_at
+entries_take zero bytes h = record { constants = []; are = refl; fits = tt; takes = record { parts = refl; fits = h }; many = refl }
+entries_take (suc zero) bytes h =
     given_bind _ (PoolTaken 1 bytes) (constant_at true bytes) _ (constant_takes true bytes h) (λ one p. record {
       constants = one.0 ∷ [];
-      are = sym (append-nil (places one.0));
+      are = sym (append-nil (entries_of one.0));
       fits = (p.1, tt);
       takes = takes_text bytes _ _ one.1 (sym (append-nil (constant_bytes one.0))) p.0;
-      many = pool_size one.0 [] ∙ ap (λ (l : List Const). length l + 0) (one_place one.0 (p.2 refl));
+      many = pool_size one.0 [] ∙ ap (λ (l : List Const). length l + 0) (one_entry one.0 (p.2 refl));
     })
-places_take (suc (suc n)) bytes h =
+entries_take (suc (suc n)) bytes h =
     given_bind _ (PoolTaken (suc (suc n)) bytes) (constant_at false bytes) _ (constant_takes false bytes h) (λ one p.
-    others_taken n bytes one p (count_of one.0) (places_take n one.1 p.0.fits) (places_take (suc n) one.1 p.0.fits))
+    others_taken n bytes one p (count_of one.0) (entries_take n one.1 p.0.fits) (entries_take (suc n) one.1 p.0.fits))
 
 -- the pool after its count; a count of 0 isn't spelled, so it is told
 pub record CountedPool (bytes : List ℕ) (x : List Const × List ℕ) : Type 0 where
@@ -95,7 +95,7 @@ pub record CountedPool (bytes : List ℕ) (x : List Const × List ℕ) : Type 0 
 pub pool_takes : (bytes : List ℕ) → IsBytes bytes → Given (CountedPool bytes) (pool_at bytes)
 unfolding pool_at
 pool_takes bytes h =
-    given_bind _ (CountedPool bytes) (u2_at bytes) _ (u2_takes bytes h) (λ count p. by count p (places_at (count.0 - 1) count.1) (places_take (count.0 - 1) count.1 p.0.fits))
+    given_bind _ (CountedPool bytes) (u2_at bytes) _ (u2_takes bytes h) (λ count p. by count p (entries_at (count.0 - 1) count.1) (entries_take (count.0 - 1) count.1 p.0.fits))
   where
     by : (count : ℕ × List ℕ) → NumberTaken u2 (2 ^ 16) bytes count → (r : Read (List Const)) → Given (PoolTaken (count.0 - 1) count.1) r → Given (CountedPool bytes) r
     by count p (Ok x) q = record { count = count.0; below = p.1; behind = count.1; first = p.0; pool = q }
@@ -168,7 +168,7 @@ refer pool (Long x) rest l = refl
 refer pool (Double bits) rest l = refl
 refer pool Rest rest l = refl
 
--- a constant's second place has no references
+-- a constant's second entry has no references
 rest_passed : (pool cs : List Const) (bytes : List ℕ) → all_references_at pool (Rest ∷ cs) bytes ≡ all_references_at pool cs bytes
 unfolding all_references_at references_at
 rest_passed pool cs bytes = refl
@@ -178,21 +178,21 @@ all_more : (pool : List Const) (c : Const) (cs : List Const) (bytes : List ℕ)
 unfolding all_references_at
 all_more pool c cs bytes = refl
 
--- the references of a constant with its places, and of those after it
-pub places_refer : (pool : List Const) (c : Const) (cs : List Const) (bytes : List ℕ) → all_references_at pool (places c ++ cs) bytes
+-- the references of a constant with its entries, and of those after it
+pub entries_refer : (pool : List Const) (c : Const) (cs : List Const) (bytes : List ℕ) → all_references_at pool (entries_of c ++ cs) bytes
     ≡ (references_at pool c (drop 1 bytes) >>= λ _. all_references_at pool cs (drop (length (constant_bytes c)) bytes))
-places_refer pool (Long x) cs bytes = all_more pool (Long x) (Rest ∷ cs) bytes ∙ ap (λ (r : Result (Unit {0}) Fault). references_at pool (Long x) (drop 1 bytes) >>= λ _. r) (rest_passed pool cs (drop 9 bytes))
-places_refer pool (Double x) cs bytes = all_more pool (Double x) (Rest ∷ cs) bytes ∙ ap (λ (r : Result (Unit {0}) Fault). references_at pool (Double x) (drop 1 bytes) >>= λ _. r) (rest_passed pool cs (drop 9 bytes))
-places_refer pool (Utf8 text) cs bytes = all_more pool (Utf8 text) cs bytes
-places_refer pool (Int x) cs bytes = all_more pool (Int x) cs bytes
-places_refer pool (Float bits) cs bytes = all_more pool (Float bits) cs bytes
-places_refer pool (Class name) cs bytes = all_more pool (Class name) cs bytes
-places_refer pool (Text text) cs bytes = all_more pool (Text text) cs bytes
-places_refer pool (Field class member) cs bytes = all_more pool (Field class member) cs bytes
-places_refer pool (Method class member) cs bytes = all_more pool (Method class member) cs bytes
-places_refer pool (Interface class member) cs bytes = all_more pool (Interface class member) cs bytes
-places_refer pool (NameType name descriptor) cs bytes = all_more pool (NameType name descriptor) cs bytes
-places_refer pool Rest cs bytes = all_more pool Rest cs bytes
+entries_refer pool (Long x) cs bytes = all_more pool (Long x) (Rest ∷ cs) bytes ∙ ap (λ (r : Result (Unit {0}) Fault). references_at pool (Long x) (drop 1 bytes) >>= λ _. r) (rest_passed pool cs (drop 9 bytes))
+entries_refer pool (Double x) cs bytes = all_more pool (Double x) (Rest ∷ cs) bytes ∙ ap (λ (r : Result (Unit {0}) Fault). references_at pool (Double x) (drop 1 bytes) >>= λ _. r) (rest_passed pool cs (drop 9 bytes))
+entries_refer pool (Utf8 text) cs bytes = all_more pool (Utf8 text) cs bytes
+entries_refer pool (Int x) cs bytes = all_more pool (Int x) cs bytes
+entries_refer pool (Float bits) cs bytes = all_more pool (Float bits) cs bytes
+entries_refer pool (Class name) cs bytes = all_more pool (Class name) cs bytes
+entries_refer pool (Text text) cs bytes = all_more pool (Text text) cs bytes
+entries_refer pool (Field class member) cs bytes = all_more pool (Field class member) cs bytes
+entries_refer pool (Method class member) cs bytes = all_more pool (Method class member) cs bytes
+entries_refer pool (Interface class member) cs bytes = all_more pool (Interface class member) cs bytes
+entries_refer pool (NameType name descriptor) cs bytes = all_more pool (NameType name descriptor) cs bytes
+entries_refer pool Rest cs bytes = all_more pool Rest cs bytes
 
 abbrev AllRefer : List Const → List Const → Unit {0} → Type 0
 AllRefer pool cs x = AllByRecursion (λ c. IsTrue (refers_well pool c)) cs
@@ -205,8 +205,8 @@ all_refer pool (c ∷ cs) rest h =
     let after : List ℕ = flat_map constant_bytes cs ++ rest in
     let regrouped : flat_map constant_bytes (c ∷ cs) ++ rest ≡ constant_bytes c ++ after = append_assoc (constant_bytes c) (flat_map constant_bytes cs) rest in
     let behind : drop (length (constant_bytes c)) (constant_bytes c ++ after) ≡ after = drop_at (constant_bytes c) after (length (constant_bytes c)) refl in
-    subst (λ bytes. Given (AllRefer pool (c ∷ cs)) (all_references_at pool (places c ++ pool_of cs) bytes)) (sym regrouped)
-    (subst (Given (AllRefer pool (c ∷ cs))) (sym (places_refer pool c (pool_of cs) (constant_bytes c ++ after)))
+    subst (λ bytes. Given (AllRefer pool (c ∷ cs)) (all_references_at pool (entries_of c ++ pool_of cs) bytes)) (sym regrouped)
+    (subst (Given (AllRefer pool (c ∷ cs))) (sym (entries_refer pool c (pool_of cs) (constant_bytes c ++ after)))
     (given_bind _ (AllRefer pool (c ∷ cs)) (references_at pool c (drop 1 (constant_bytes c ++ after))) _ (refer pool c after h.0) (λ x p.
     given_more c cs p _ (subst (λ bytes. Given (AllRefer pool cs) (all_references_at pool (pool_of cs) bytes)) (sym behind) (all_refer pool cs rest h.1)))))
   where

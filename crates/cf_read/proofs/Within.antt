@@ -10,10 +10,11 @@ use Rattle.cf_read.specs.Reading.{Found, MethodOutline, FileOutline, outline_of}
 use Rattle.cf_read.specs.declared.fault.Fault.{Fault}
 use Rattle.cf_read.specs.declared.file_fault.FileKind.{FileKind}
 use Rattle.cf_read.specs.declared.file_fault.FileKind.TheVariants as fault
-use Rattle.cf_read.proofs.Bounds.{Held, OptFits, FoundFits, MethodFits, outline_held}
+use Rattle.cf_read.proofs.Bounds.{OptFits, FoundFits, MethodFits}
+use Rattle.cf_read.proofs.SimpleKinds.{Met, outline_met}
 
 fit_methods : (bytes : List ℕ) (o : FileOutline) → outline_of bytes ≡ Ok o → AllByRecursion (MethodFits (length bytes)) o.methods
-fit_methods bytes o e = subst (Held (λ o. AllByRecursion (MethodFits (length bytes)) o.methods) (length bytes)) e (outline_held (length bytes) bytes (omega arith))
+fit_methods bytes o e = subst (Met (λ o. AllByRecursion (MethodFits (length bytes)) o.methods) bytes) e (outline_met bytes)
 
 short_one : (n : ℕ) (m : MethodOutline) → MethodFits n m → IsShort m
 short_one n m h = by m.code h
@@ -39,14 +40,14 @@ bad_within n pool found f h (Unnamed at b) = omega (arith, length-drop (at + 1) 
 bad_within n pool found f h (Table code a b c k at d) = omega (arith, length-drop at found.rows_from, h.rows)
 
 pub met_within : (bytes : List ℕ) (f : Fault) → IsMet bytes f → f.left ≤ length bytes
-met_within bytes f (inl e) = subst (Held (λ o. AllByRecursion (MethodFits (length bytes)) o.methods) (length bytes)) e (outline_held (length bytes) bytes (omega arith))
+met_within bytes f (inl e) = (subst (Met (λ o. AllByRecursion (MethodFits (length bytes)) o.methods) bytes) e (outline_met bytes)).0
 met_within bytes f (inr h) =
     let bad = h.2 in
     let fits = subst (AllByRecursion (MethodFits (length bytes))) bad.are (fit_methods bytes h.0 h.1) in
     let one = middle (MethodFits (length bytes)) bad.before bad.method bad.after fits in
     bad_within (length bytes) h.0.pool bad.found f (subst (OptFits (length bytes)) bad.has_code one) bad.bad
 
--- the fault with its place
+-- the fault with its offset
 pub fault_at : (bytes : List ℕ) (f : Fault) → IsMet bytes f → IsFaultBy bytes f.kind (length bytes - f.left)
 fault_at bytes f m = by f.kind m
   where

@@ -2,7 +2,7 @@
 use Rattle.std.specs.Prelude.{◌≡◌, ◌≢◌, ℕ, ◌+◌, ◌*◌, ◌<◌, ◌≤◌, List, [], ◌∷◌, ◌++◌, length, take, drop, slice_get, Option, None, Some, map, IsTrue}
 use Rattle.std.specs.List.{flat_map, AllByRecursion}
 use Rattle.cf_form.specs.Pool.{names}
-use Rattle.cf_form.specs.Instructions.{IsCode, code_bytes, bytes_of, Fits, place}
+use Rattle.cf_form.specs.Instructions.{IsCode, code_bytes, bytes_of, Fits, offset}
 use Rattle.cf_form.specs.ClassFiles.{NamesWell, row_of, HandlerFits, Each}
 use Rattle.cf_form.specs.Outline.{Row}
 use Rattle.cf_form.specs.declared.class_file.MethodInfo.{MethodInfo}
@@ -54,29 +54,26 @@ pub record IsBadIndex (pool : List Const) (code : List ℕ) (at : ℕ) : Type 0 
   pub bad : ¬ (NamesWell pool instr)
   pub first : (earlier : ℕ) → earlier < at → ¬ (IsRefusedAt code earlier)
 
--- one of n instructions begins at this place
-abbrev pub IsBeginning : List Instr → ℕ → Type 0
-IsBeginning code at = (n : ℕ) × (n < length code) × (place code n ≡ at)
-
--- one of them begins there, or the last ends there
+-- one of these instructions begins at this byte, or the last ends there
 abbrev pub IsBoundary : List Instr → ℕ → Type 0
-IsBoundary code at = (n : ℕ) × (n ≤ length code) × (place code n ≡ at)
+IsBoundary code at = (n : ℕ) × (n ≤ length code) × (offset code n ≡ at)
 
 -- what a handler catches is a class, or everything
 abbrev pub CatchesClass : List Const → Row → Type 0
 CatchesClass pool row = row.class ≢ 0 → IsTrue (names pool kind.Class row.class)
 
+-- each offset of a row is a boundary of the code, and it catches a class or everything
 abbrev pub RowFits : List Const → List Instr → Row → Type 0
 RowFits pool code row =
-    IsBeginning code row.from × IsBoundary code row.to × IsBeginning code row.target × CatchesClass pool row
+    IsBoundary code row.from × IsBoundary code row.to × IsBoundary code row.target × CatchesClass pool row
 
--- the first wrong place of a row, in bytes from the row's first
+-- what is first wrong in a row, so many bytes from its beginning
 pub data IsBadRow (pool : List Const) (code : List Instr) (row : Row) : FileKind → ℕ → Type 0 where
-  From : ¬ (IsBeginning code row.from) → IsBadRow pool code row fault.Code 0
-  To : IsBeginning code row.from → ¬ (IsBoundary code row.to) → IsBadRow pool code row fault.Code 2
-  Target : IsBeginning code row.from → IsBoundary code row.to → ¬ (IsBeginning code row.target)
+  From : ¬ (IsBoundary code row.from) → IsBadRow pool code row fault.Code 0
+  To : IsBoundary code row.from → ¬ (IsBoundary code row.to) → IsBadRow pool code row fault.Code 2
+  Target : IsBoundary code row.from → IsBoundary code row.to → ¬ (IsBoundary code row.target)
       → IsBadRow pool code row fault.Code 4
-  Caught : IsBeginning code row.from → IsBoundary code row.to → IsBeginning code row.target
+  Caught : IsBoundary code row.from → IsBoundary code row.to → IsBoundary code row.target
       → ¬ (CatchesClass pool row) → IsBadRow pool code row fault.Index 6
 
 -- the first wrong row of a table, whose rows begin the bytes
@@ -87,7 +84,7 @@ pub record IsBadTable (pool : List Const) (code : List Instr) (rows : List Row) 
   pub before : AllByRecursion (RowFits pool code) (take n rows)
   pub within : ℕ
   pub bad : IsBadRow pool code row kind within
-  pub place : at ≡ 8 * n + within
+  pub offset : at ≡ 8 * n + within
 
 -- the first fault of a code that was found
 pub data IsBad (pool : List Const) (found : Found) : Fault → Type 0 where
@@ -105,6 +102,7 @@ IsReadOrNone pool None None = Unit {0}
 IsReadOrNone pool (Some found) (Some code) = IsRead pool found code
 IsReadOrNone pool _ _ = ⊥
 
+-- the method is this one, its code that which was found
 abbrev pub IsMethodRead : List Const → MethodOutline → MethodInfo → Type 0
 IsMethodRead pool outline method =
     (outline.access ≡ method.access) × (outline.name ≡ method.name) × (outline.descriptor ≡ method.descriptor)

@@ -4,6 +4,7 @@ use Rattle.cf_read.specs.declared.fault.Fault.{Fault}
 use Rattle.cf_read.specs.declared.fault.Stop.{Stop}
 use Rattle.cf_read.specs.declared.fault.Stop.TheVariants as stop
 
+-- a reader that stopped stopped at the fault, unless memory ran out
 abbrev pub Fails : {Y : Type 0} → Stop → Result Y Fault → Type 0
 Fails stop.Memory read = Unit {0}
 Fails (stop.Met f) read = read ≡ Err f

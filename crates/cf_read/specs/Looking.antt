@@ -1,8 +1,8 @@
 -- What looking into codes finds, step by step.
-use Rattle.std.specs.Prelude.{◌≡◌, ℕ, ◌+◌, ◌≤◌, List, ◌++◌, length, slice_index, drop, map, Some, Ok}
+use Rattle.std.specs.Prelude.{◌≡◌, ℕ, ◌≤◌, List, ◌++◌, length, drop, map, Some, Ok}
 use Rattle.std.specs.Option.{option_map_or}
 use Rattle.std.specs.List.{flat_map, AllByRecursion}
-use Rattle.cf_form.specs.Instructions.{bytes_of, Fits, place}
+use Rattle.cf_form.specs.Instructions.{bytes_of, Fits}
 use Rattle.cf_form.specs.ClassFiles.{NamesWell, row_of, HandlerFits, Each}
 use Rattle.cf_form.specs.Outline.{Row}
 use Rattle.cf_form.specs.declared.class_file.ClassFile.{ClassFile}
@@ -39,11 +39,6 @@ pub record IsUnnamedAt (pool : List Const) (code : List ℕ) (at : ℕ) : Type 0
   pub names : AllByRecursion (NamesWell pool) front
   pub bad : ¬ (NamesWell pool instr)
 
--- the first bytes of these instructions, and the length of all
-pub record ArePlaces (code : List Instr) (starts : List ℕ) : Type 0 where
-  pub many : length starts ≡ length code + 1
-  pub each : (k : ℕ) → k ≤ length code → slice_index starts k ≡ place code k
-
 -- these handlers are the rows
 pub record AreHandlers (pool : List Const) (code : List Instr) (rows : List Row) (handlers : List Handler) : Type 0 where
   pub are : rows ≡ map (row_of code) handlers
@@ -54,10 +49,12 @@ abbrev pub IsTableStop : List Const → List Instr → List Row → List ℕ →
 IsTableStop pool code rows from stop.Memory = Unit {0}
 IsTableStop pool code rows from (stop.Met f) = (at : ℕ) × IsBadTable pool code rows f.kind at × (f.left ≡ length (drop at from))
 
+-- no memory was left, or the fault is one of this code
 abbrev pub IsCodeStop : List Const → Found → Stop → Type 0
 IsCodeStop pool found stop.Memory = Unit {0}
 IsCodeStop pool found (stop.Met f) = IsBad pool found f
 
+-- no memory was left, or the fault is one of this method's code
 abbrev pub IsMethodStop : List Const → MethodOutline → Stop → Type 0
 IsMethodStop pool method stop.Memory = Unit {0}
 IsMethodStop pool method (stop.Met f) = (found : Found) × (method.code ≡ Some found) × IsBad pool found f

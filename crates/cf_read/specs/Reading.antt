@@ -5,8 +5,8 @@ use Rattle.std.specs.List.{list_any}
 use Rattle.std.specs.Str.{bytes_eq}
 use Rattle.std.specs.Int.{w16, w32, w64, from_be_bytes, cast_signed}
 use Rattle.cf_mutf8.specs.Decoded.{decoded}
-use Rattle.cf_form.specs.Pool.{names, is_of, places, constant_bytes, text_at}
-use Rattle.cf_form.specs.ClassFiles.{code_name}
+use Rattle.cf_form.specs.Pool.{names, is_of, entries_of, constant_bytes, text_at}
+use Rattle.cf_form.specs.ClassFiles.{code_name, is_version}
 use Rattle.cf_form.specs.Outline.{Row}
 use Rattle.cf_form.specs.declared.constant.Const.{Const}
 use Rattle.cf_form.specs.declared.constant.Const.TheVariants.{Utf8, Int, Float, Long, Double, Class, Text, Field, Method, Interface, NameType}
@@ -17,6 +17,7 @@ use Rattle.cf_read.specs.declared.fault.Fault.{Fault}
 use Rattle.cf_read.specs.declared.file_fault.FileKind.{FileKind}
 use Rattle.cf_read.specs.declared.file_fault.FileKind.TheVariants as fault
 
+-- what was read with the bytes behind it, or the first fault
 abbrev pub Read : Type 0 → Type 0
 Read A = Result (A × List ℕ) Fault
 
@@ -24,6 +25,7 @@ Read A = Result (A × List ℕ) Fault
 abbrev pub refused : {A : Type 0} → FileKind → List ℕ → Result A Fault
 refused kind from = Err (record { kind = kind; left = length from })
 
+-- one after the other, up to a fault
 infixl 10 ◌>>=◌
 abbrev pub ◌>>=◌ : {A B : Type 0} → Result A Fault → (A → Result B Fault) → Result B Fault
 (Ok x) >>= f = f x
@@ -37,83 +39,94 @@ demand holds kind from = if holds then Ok tt else refused kind from
 unfoldable pub some_at : ℕ → List ℕ → Read (List ℕ)
 some_at n bytes = if nat_lt (length bytes) n then refused fault.Cut [] else Ok (take n bytes, drop n bytes)
 
--- numbers of one, two, four and eight bytes
+-- a byte
 unfoldable pub u1_at : List ℕ → Read ℕ
 u1_at [] = refused fault.Cut []
 u1_at (b ∷ bytes) = Ok (b, bytes)
 
+-- a number of two bytes
 unfoldable pub u2_at : List ℕ → Read ℕ
 u2_at bytes = do
   two ← some_at 2 bytes
   Ok (from_be_bytes w16 two.0, two.1)
 
+-- a number of four bytes
 unfoldable pub u4_at : List ℕ → Read ℕ
 u4_at bytes = do
   four ← some_at 4 bytes
   Ok (from_be_bytes w32 four.0, four.1)
 
+-- a number of eight bytes
 unfoldable pub u8_at : List ℕ → Read ℕ
 u8_at bytes = do
   eight ← some_at 8 bytes
   Ok (from_be_bytes w64 eight.0, eight.1)
 
--- the magic and the version
+-- the magic
 unfoldable pub magic_at : List ℕ → Read (Unit {0})
 magic_at bytes = do
   magic ← u4_at bytes
   right ← demand (magic.0 == 0xCAFEBABE) fault.Magic bytes
   Ok (tt, magic.1)
 
+-- the minor and the major version
 unfoldable pub version_at : List ℕ → Read (ℕ × ℕ)
 version_at bytes = do
   minor ← u2_at bytes
   major ← u2_at minor.1
-  right ← demand (nat_le 45 major.0 && nat_le major.0 49) fault.Version minor.1
+  right ← demand (is_version major.0) fault.Version minor.1
   Ok ((minor.0, major.0), major.1)
 
--- a text, whose constant begins at `from`
+-- the text that was decoded, or that none was, in a constant that begins at `from`
 abbrev pub text_or : List ℕ → List ℕ → Option (List ℕ) → Read Const
 text_or from rest None = refused fault.Utf from
 text_or from rest (Some text) = Ok (Utf8 text, rest)
 
+-- a text, in a constant that begins at `from`
 unfoldable pub text_constant_at : List ℕ → List ℕ → Read Const
 text_constant_at from bytes = do
   count ← u2_at bytes
   text ← some_at count.0 count.1
   text_or from text.1 (decoded text.0)
 
--- an index, and two
+-- a constant of one index
 unfoldable pub indexed_at : (ℕ → Const) → List ℕ → Read Const
 indexed_at make bytes = do
   index ← u2_at bytes
   Ok (make index.0, index.1)
 
+-- two numbers of two bytes
 unfoldable pub two_at : List ℕ → Read (ℕ × ℕ)
 two_at bytes = do
   one ← u2_at bytes
   other ← u2_at one.1
   Ok ((one.0, other.0), other.1)
 
+-- a constant of two indexes
 unfoldable pub paired_at : (ℕ → ℕ → Const) → List ℕ → Read Const
 paired_at make bytes = do
   two ← two_at bytes
   Ok (make two.0.0 two.0.1, two.1)
 
+-- an Int
 unfoldable pub int_at : List ℕ → Read Const
 int_at bytes = do
   n ← u4_at bytes
   Ok (Int (cast_signed w32 n.0), n.1)
 
+-- a Float
 unfoldable pub float_at : List ℕ → Read Const
 float_at bytes = do
   n ← u4_at bytes
   Ok (Float n.0, n.1)
 
+-- a Long
 unfoldable pub long_at : List ℕ → Read Const
 long_at bytes = do
   n ← u8_at bytes
   Ok (Long (cast_signed w64 n.0), n.1)
 
+-- a Double
 unfoldable pub double_at : List ℕ → Read Const
 double_at bytes = do
   n ← u8_at bytes
@@ -135,29 +148,29 @@ tagged_at tag from bytes =
     else (if tag == 12 then paired_at NameType bytes
     else refused fault.Tag from))))))))))
 
--- a constant; one of two places doesn't fit the last place of the pool
+-- a constant; one of two entries doesn't fit the last entry of the pool
 unfoldable pub constant_at : Bool → List ℕ → Read Const
 constant_at is_last bytes = do
   tag ← u1_at bytes
   room ← demand (not (is_last && (tag.0 == 5 || tag.0 == 6))) fault.Index bytes
   tagged_at tag.0 bytes tag.1
 
--- the constants of so many places, each with its places
-unfoldable pub places_at : ℕ → List ℕ → Read (List Const)
-places_at zero bytes = Ok ([], bytes)
-places_at (suc zero) bytes = do
+-- the constants of so many entries, each with its entries
+unfoldable pub entries_at : ℕ → List ℕ → Read (List Const)
+entries_at zero bytes = Ok ([], bytes)
+entries_at (suc zero) bytes = do
   one ← constant_at true bytes
-  Ok (places one.0, one.1)
-places_at (suc (suc n)) bytes = do
+  Ok (entries_of one.0, one.1)
+entries_at (suc (suc n)) bytes = do
   one ← constant_at false bytes
-  others ← if is_of kind.Double one.0 then places_at n one.1 else places_at (suc n) one.1
-  Ok (places one.0 ++ others.0, others.1)
+  others ← if is_of kind.Double one.0 then entries_at n one.1 else entries_at (suc n) one.1
+  Ok (entries_of one.0 ++ others.0, others.1)
 
--- the pool, after its count of places and one; 0 is taken for 1
+-- the pool, after its count of entries and one; 0 is taken for 1
 unfoldable pub pool_at : List ℕ → Read (List Const)
 pool_at bytes = do
   count ← u2_at bytes
-  places_at (count.0 - 1) count.1
+  entries_at (count.0 - 1) count.1
 
 -- an index of an entry of a kind
 unfoldable pub index_at : List Const → Kind → List ℕ → Read ℕ
@@ -166,6 +179,7 @@ index_at pool needed bytes = do
   right ← demand (names pool needed index.0) fault.Index bytes
   Ok index
 
+-- two indexes of entries of kinds
 unfoldable pub indexes_at : List Const → Kind → Kind → List ℕ → Read (Unit {0})
 indexes_at pool one other bytes = do
   first ← index_at pool one bytes
@@ -182,7 +196,7 @@ references_at pool (Interface class member) bytes = indexes_at pool kind.Class k
 references_at pool (NameType name descriptor) bytes = indexes_at pool kind.Utf8 kind.Utf8 bytes >>= λ _. Ok tt
 references_at pool _ bytes = Ok tt
 
--- the references of these constants, which begin the bytes; the second place of one has none
+-- the references of these constants, which begin the bytes; the second entry of one has none
 unfoldable pub all_references_at : List Const → List Const → List ℕ → Result (Unit {0}) Fault
 all_references_at pool [] bytes = Ok tt
 all_references_at pool (c ∷ cs) bytes = do
@@ -209,25 +223,27 @@ info_at bytes = do
   count ← u4_at bytes
   some_at count.0 count.1
 
--- attributes that are passed over
+-- an attribute that is passed over
 unfoldable pub passed_one_at : List ℕ → Read (Unit {0})
 passed_one_at bytes = do
   name ← u2_at bytes
   info ← info_at name.1
   Ok (tt, info.1)
 
+-- so many attributes that are passed over
 unfoldable pub passed_at : ℕ → List ℕ → Read (Unit {0})
 passed_at zero bytes = Ok (tt, bytes)
 passed_at (suc n) bytes = do
   first ← passed_one_at bytes
   passed_at n first.1
 
+-- attributes that are passed over, after their count
 unfoldable pub attributes_at : List ℕ → Read (Unit {0})
 attributes_at bytes = do
   count ← u2_at bytes
   passed_at count.0 count.1
 
--- rows of an exception table
+-- a row of an exception table
 unfoldable pub row_at : List ℕ → Read Row
 row_at bytes = do
   from ← u2_at bytes
@@ -276,6 +292,7 @@ code_at bytes = do
   right ← demand (count.0 + length found.1 == length count.1) fault.Code bytes
   Ok found
 
+-- there is none
 abbrev pub is_none : {A : Type 0} → Option A → Bool
 is_none None = true
 is_none (Some x) = false
@@ -308,6 +325,7 @@ attribute_at pool access before bytes = do
   name ← u2_at bytes
   if is_code_name (text_at pool name.0) then method_code_at access before bytes name.1 else other_at before name.1
 
+-- so many attributes of a method, with its Code if one of them is
 unfoldable pub method_attributes_at : ℕ → List Const → ℕ → Option Found → List ℕ → Read (Option Found)
 method_attributes_at zero pool access before bytes = Ok (before, bytes)
 method_attributes_at (suc n) pool access before bytes = do
@@ -318,14 +336,17 @@ method_attributes_at (suc n) pool access before bytes = do
 abbrev pub Key : Type 0
 Key = Option (List ℕ) × Option (List ℕ)
 
+-- the texts at these indexes
 abbrev pub key_of : List Const → ℕ → ℕ → Key
 key_of pool name descriptor = (text_at pool name, text_at pool descriptor)
 
+-- both are the same text, or none is one
 abbrev pub same_text : Option (List ℕ) → Option (List ℕ) → Bool
 same_text (Some one) (Some other) = bytes_eq one other
 same_text None None = true
 same_text _ _ = false
 
+-- the names are the same, and the descriptors
 abbrev pub same_key : Key → Key → Bool
 same_key one other = same_text one.0 other.0 && same_text one.1 other.1
 
@@ -342,6 +363,7 @@ pub record Front : Type 0 where
   pub name : ℕ
   pub descriptor : ℕ
 
+-- what a member begins with
 unfoldable pub front_at : List Const → List Key → List ℕ → Read Front
 front_at pool keys bytes = do
   access ← u2_at bytes
@@ -358,15 +380,18 @@ members_at one key (suc n) keys bytes = do
   others ← members_at one key n (keys ++ key first.0 ∷ []) first.1
   Ok (first.0 ∷ others.0, others.1)
 
+-- the key of a field
 abbrev pub field_key : List Const → FieldInfo → Key
 field_key pool field = key_of pool field.name field.descriptor
 
+-- a field that has none of these keys
 unfoldable pub field_at : List Const → List Key → List ℕ → Read FieldInfo
 field_at pool keys bytes = do
   front ← front_at pool keys bytes
   attributes ← attributes_at front.1
   Ok (record { access = front.0.access; name = front.0.name; descriptor = front.0.descriptor }, attributes.1)
 
+-- the fields, after their count
 unfoldable pub fields_at : List Const → List ℕ → Read (List FieldInfo)
 fields_at pool bytes = do
   count ← u2_at bytes
@@ -389,9 +414,11 @@ method_at pool keys bytes = do
     code.1,
   )
 
+-- the key of a method
 abbrev pub method_key : List Const → MethodOutline → Key
 method_key pool method = key_of pool method.name method.descriptor
 
+-- the methods, after their count
 unfoldable pub methods_at : List Const → List ℕ → Read (List MethodOutline)
 methods_at pool bytes = do
   count ← u2_at bytes

@@ -1,5 +1,5 @@
 -- The texts of a pool as numbers, and the members that were read as numbers made of these.
-use Rattle.std.specs.Prelude.{◌≡◌, ℕ, ◌+◌, ◌*◌, ◌^◌, ◌<◌, ◌==◌, List, Option, None, Some, slice_index, encode_utf8_all}
+use Rattle.std.specs.Prelude.{◌≡◌, ◌≢◌, [], ℕ, ◌+◌, ◌*◌, ◌^◌, ◌<◌, ◌==◌, List, Option, None, Some, slice_index, encode_utf8_all}
 use Rattle.std.specs.BTreeMap as tree
 use Rattle.std.specs.BTreeMap.{BTreeMap}
 use Rattle.std.specs.BTreeSet as sorted
@@ -47,7 +47,11 @@ IsNumber old new index (Some text) number =
     × (number ≡ unwrap_or (first_of old (encode_utf8_all text)) index)
     × ((bytes : List ℕ) → first_of new bytes ≡ update bytes_eq (first_of old) (encode_utf8_all text) (Some number) bytes)
 
--- the members are told apart by what this pool has
-pub record AreKept (pool : List Const) (members : Members) : Type 0 where
-  pub numbered : NumbersTexts pool members.texts.items
-  pub seen : AreSeen members.texts.items members.numbers members.keys.items
+-- nothing, or the numbers of the texts
+abbrev pub NumbersIfAny : List Const → List ℕ → Type 0
+NumbersIfAny pool texts = texts ≢ [] → NumbersTexts pool texts
+
+-- the members are told apart by what this pool has; the texts have numbers, unless there is no member yet
+pub record AreKept (pool : List Const) (texts : List ℕ) (members : Members) : Type 0 where
+  pub numbered : members.keys.items ≢ [] → NumbersTexts pool texts
+  pub seen : AreSeen texts members.numbers members.keys.items

@@ -9,9 +9,11 @@ use Rattle.cf_read.specs.declared.parts.FrontParts.{FrontParts}
 use Rattle.cf_read.specs.declared.parts.MethodParts.{MethodParts}
 use Rattle.cf_read.specs.declared.parts.FileParts.{FileParts}
 
+-- a row of an exception table
 abbrev pub row_of : RowParts → Row
 row_of r = record { from = r.from; to = r.to; target = r.target; class = r.class }
 
+-- a code with the bytes from its parts on
 abbrev pub found_of : CodeParts → Found
 found_of c = record {
   max_stack = c.max_stack;
@@ -22,12 +24,15 @@ found_of c = record {
   rows_from = c.rows_from.now;
 }
 
+-- what a member begins with
 abbrev pub front_of : FrontParts → Front
 front_of f = record { access = f.access; name = f.name; descriptor = f.descriptor }
 
+-- a method
 abbrev pub method_of : MethodParts → MethodOutline
 method_of m = record { access = m.access; name = m.name; descriptor = m.descriptor; code = option_map found_of m.code }
 
+-- a class file before its codes are looked into
 abbrev pub file_of : FileParts → FileOutline
 file_of f = record {
   minor = f.minor;

@@ -12,7 +12,7 @@ ghost use Rattle.cf_read.specs.Views.{found_of, method_of};
 use crate::fault::{Stop, refused};
 use crate::file_fault::FileKind;
 use crate::handlers::read_handlers;
-use crate::naming::first_unnamed;
+use crate::naming::{first_unnamed, first_unnamed_of};
 use crate::numbers::skip;
 use crate::parts::{CodeParts, MethodParts};
 use cf_form::{Code, Const, Instr, MethodInfo};
@@ -48,7 +48,7 @@ fn code_of(alloc: Global, pool: &[Const], found: &CodeParts) -> Result<Code, Sto
 {
     match decode(alloc, found.code) {
         Err(fault) => Err(first_fault(pool, found, fault)),
-        Ok(instrs) => match first_unnamed(pool, found.code) {
+        Ok(instrs) => match first_unnamed_of(pool, found.code, &instrs) {
             Some(at) => Err(refused_index(found, at)),
             None => with_handlers(alloc, pool, found, instrs),
         },
@@ -60,20 +60,20 @@ fn with_handlers(
     alloc: Global,
     pool: &[Const],
     found: &CodeParts,
-    instrs: Items<Instr>,
+    instrs: Vec<Instr>,
 ) -> Result<Code, Stop>
     requires short { length found.now.code.now ≤ 65535 }
-    requires is_code { IsCode instrs }
-    requires instrs { found.now.code.now ≡ code_bytes instrs }
-    requires names { AllByRecursion (NamesWell pool.now) instrs }
+    requires is_code { IsCode instrs.items }
+    requires instrs { found.now.code.now ≡ code_bytes instrs.items }
+    requires names { AllByRecursion (NamesWell pool.now) instrs.items }
     ensures { MatchResult result (IsRead pool.now (found_of found.now)) (IsCodeStop pool.now (found_of found.now)) }
 {
     let rows = found.rows.as_slice();
-    match read_handlers(alloc, pool, instrs.as_slice(), rows, found.rows_from) {
+    match read_handlers(alloc, pool, &instrs, rows, found.rows_from) {
         Ok(handlers) => Ok(Code {
             max_stack: found.max_stack,
             max_locals: found.max_locals,
-            instrs,
+            instrs: Items::from_vec(instrs),
             handlers,
         }),
         Err(stop) => Err(stop),
@@ -134,7 +134,7 @@ pub(crate) fn methods_with_codes(
     requires { AllByRecursion IsShort (map method_of methods.now) }
     ensures { MatchResult result (λ infos. Each (IsMethodRead pool.now) (map method_of methods.now) infos.items) (IsMethodsStop pool.now (map method_of methods.now)) }
 {
-    let mut infos = Vec::new(alloc);
+    let mut infos = Vec::with_capacity(alloc, methods.len())?;
     for method in methods {
         let info = method_with_code(alloc, pool, method)?;
         infos.push(info)?;

@@ -8,31 +8,31 @@ ghost use Rattle.cf_read.specs.Reading.{text_constant_at, indexed_at, paired_at,
 
 use crate::fault::{Stop, refused};
 use crate::file_fault::FileKind;
-use crate::numbers::{read_some, read_two, read_u1, read_u2, read_u4, read_u8};
+use crate::numbers::{some_at, two_at, u1_at, u2_at, u4_at, u8_at};
 use cf_form::Const;
 use cf_mutf8::{Utf8Fault, get};
-use sl_name::Name;
+use sl_base::Name;
 use std::alloc::Global;
 
-/// A constant. Where it has the last place of the pool, it may take no second one.
+/// A constant. Where it takes the last entry of the pool, it may take no second one.
 #[tactic(auto, unfolding(crate::specs::Reading::constant_at))]
-pub(crate) fn read_constant(
+pub(crate) fn constant_at(
     alloc: Global,
     is_last: bool,
     bytes: &[u8],
 ) -> Result<(Const, &[u8]), Stop>
     ensures { Gives (λ x. (x.0, x.1.now)) result (constant_at is_last bytes.now) }
 {
-    let (tag, rest) = read_u1(bytes)?;
+    let (tag, rest) = u1_at(bytes)?;
     if is_last && (tag == 5 || tag == 6) {
         return Err(refused(FileKind::Index, bytes));
     }
-    read_tagged(alloc, tag, bytes, rest)
+    tagged_at(alloc, tag, bytes, rest)
 }
 
 // What stands behind a tag, in a constant that begins at `from`.
 #[tactic(auto, unfolding(crate::specs::Reading::tagged_at))]
-fn read_tagged<'a>(
+fn tagged_at<'a>(
     alloc: Global,
     tag: u8,
     from: &[u8],
@@ -41,11 +41,11 @@ fn read_tagged<'a>(
     ensures { Gives (λ x. (x.0, x.1.now)) result (tagged_at tag from.now bytes.now) }
 {
     match tag {
-        1 => read_text_constant(alloc, from, bytes),
-        3 => read_int(bytes),
-        4 => read_float(bytes),
-        5 => read_long(bytes),
-        6 => read_double(bytes),
+        1 => text_constant_at(alloc, from, bytes),
+        3 => int_at(bytes),
+        4 => float_at(bytes),
+        5 => long_at(bytes),
+        6 => double_at(bytes),
         7 => read_class(bytes),
         8 => read_text(bytes),
         9 => read_field(bytes),
@@ -58,15 +58,15 @@ fn read_tagged<'a>(
 
 // A text, in a constant that begins at `from`.
 #[tactic(auto, unfolding(crate::specs::Reading::text_constant_at))]
-fn read_text_constant<'a>(
+fn text_constant_at<'a>(
     alloc: Global,
     from: &[u8],
     bytes: &'a [u8],
 ) -> Result<(Const, &'a [u8]), Stop>
     ensures { Gives (λ x. (x.0, x.1.now)) result (text_constant_at from.now bytes.now) }
 {
-    let (count, rest) = read_u2(bytes)?;
-    let (text, rest) = read_some(usize::from(count), rest)?;
+    let (count, rest) = u2_at(bytes)?;
+    let (text, rest) = some_at(usize::from(count), rest)?;
     match text_of(alloc, text)? {
         Some(name) => Ok((Const::Utf8(name), rest)),
         None => Err(refused(FileKind::Utf, from)),
@@ -87,34 +87,34 @@ fn text_of(alloc: Global, bytes: &[u8]) -> Result<Option<Name>, Stop>
 }
 
 #[tactic(auto, unfolding(crate::specs::Reading::int_at))]
-fn read_int(bytes: &[u8]) -> Result<(Const, &[u8]), Stop>
+fn int_at(bytes: &[u8]) -> Result<(Const, &[u8]), Stop>
     ensures { Gives (λ x. (x.0, x.1.now)) result (int_at bytes.now) }
 {
-    let (number, rest) = read_u4(bytes)?;
+    let (number, rest) = u4_at(bytes)?;
     Ok((Const::Int(number.cast_signed()), rest))
 }
 
 #[tactic(auto, unfolding(crate::specs::Reading::float_at))]
-fn read_float(bytes: &[u8]) -> Result<(Const, &[u8]), Stop>
+fn float_at(bytes: &[u8]) -> Result<(Const, &[u8]), Stop>
     ensures { Gives (λ x. (x.0, x.1.now)) result (float_at bytes.now) }
 {
-    let (bits, rest) = read_u4(bytes)?;
+    let (bits, rest) = u4_at(bytes)?;
     Ok((Const::Float(bits), rest))
 }
 
 #[tactic(auto, unfolding(crate::specs::Reading::long_at))]
-fn read_long(bytes: &[u8]) -> Result<(Const, &[u8]), Stop>
+fn long_at(bytes: &[u8]) -> Result<(Const, &[u8]), Stop>
     ensures { Gives (λ x. (x.0, x.1.now)) result (long_at bytes.now) }
 {
-    let (number, rest) = read_u8(bytes)?;
+    let (number, rest) = u8_at(bytes)?;
     Ok((Const::Long(number.cast_signed()), rest))
 }
 
 #[tactic(auto, unfolding(crate::specs::Reading::double_at))]
-fn read_double(bytes: &[u8]) -> Result<(Const, &[u8]), Stop>
+fn double_at(bytes: &[u8]) -> Result<(Const, &[u8]), Stop>
     ensures { Gives (λ x. (x.0, x.1.now)) result (double_at bytes.now) }
 {
-    let (bits, rest) = read_u8(bytes)?;
+    let (bits, rest) = u8_at(bytes)?;
     Ok((Const::Double(bits), rest))
 }
 
@@ -122,7 +122,7 @@ fn read_double(bytes: &[u8]) -> Result<(Const, &[u8]), Stop>
 fn read_class(bytes: &[u8]) -> Result<(Const, &[u8]), Stop>
     ensures { Gives (λ x. (x.0, x.1.now)) result (indexed_at Class bytes.now) }
 {
-    let (name, rest) = read_u2(bytes)?;
+    let (name, rest) = u2_at(bytes)?;
     Ok((Const::Class(name), rest))
 }
 
@@ -130,7 +130,7 @@ fn read_class(bytes: &[u8]) -> Result<(Const, &[u8]), Stop>
 fn read_text(bytes: &[u8]) -> Result<(Const, &[u8]), Stop>
     ensures { Gives (λ x. (x.0, x.1.now)) result (indexed_at Text bytes.now) }
 {
-    let (text, rest) = read_u2(bytes)?;
+    let (text, rest) = u2_at(bytes)?;
     Ok((Const::Text(text), rest))
 }
 
@@ -138,7 +138,7 @@ fn read_text(bytes: &[u8]) -> Result<(Const, &[u8]), Stop>
 fn read_field(bytes: &[u8]) -> Result<(Const, &[u8]), Stop>
     ensures { Gives (λ x. (x.0, x.1.now)) result (paired_at Field bytes.now) }
 {
-    let (class, member, rest) = read_two(bytes)?;
+    let (class, member, rest) = two_at(bytes)?;
     Ok((Const::Field(class, member), rest))
 }
 
@@ -146,7 +146,7 @@ fn read_field(bytes: &[u8]) -> Result<(Const, &[u8]), Stop>
 fn read_method(bytes: &[u8]) -> Result<(Const, &[u8]), Stop>
     ensures { Gives (λ x. (x.0, x.1.now)) result (paired_at Method bytes.now) }
 {
-    let (class, member, rest) = read_two(bytes)?;
+    let (class, member, rest) = two_at(bytes)?;
     Ok((Const::Method(class, member), rest))
 }
 
@@ -154,7 +154,7 @@ fn read_method(bytes: &[u8]) -> Result<(Const, &[u8]), Stop>
 fn read_interface(bytes: &[u8]) -> Result<(Const, &[u8]), Stop>
     ensures { Gives (λ x. (x.0, x.1.now)) result (paired_at Interface bytes.now) }
 {
-    let (class, member, rest) = read_two(bytes)?;
+    let (class, member, rest) = two_at(bytes)?;
     Ok((Const::Interface(class, member), rest))
 }
 
@@ -162,6 +162,6 @@ fn read_interface(bytes: &[u8]) -> Result<(Const, &[u8]), Stop>
 fn read_name_type(bytes: &[u8]) -> Result<(Const, &[u8]), Stop>
     ensures { Gives (λ x. (x.0, x.1.now)) result (paired_at NameType bytes.now) }
 {
-    let (name, descriptor, rest) = read_two(bytes)?;
+    let (name, descriptor, rest) = two_at(bytes)?;
     Ok((Const::NameType(name, descriptor), rest))
 }

@@ -1,8 +1,6 @@
-//! Class files.
+//! The class file that bytes are, its codes looked into after the whole file, and its fault's offset.
 
-ghost use Rattle.std.specs.Prelude.{◌≡◌, ◌<◌, ◌^◌, length, IfOk, IfErr, MatchResult, Ok};
-ghost use Rattle.cf_form.specs.ClassFiles.{Reads};
-ghost use Rattle.cf_form.specs.declared.class_file.ClassFile.{ClassFile as File};
+ghost use Rattle.std.specs.Prelude.{◌≡◌, ◌<◌, ◌^◌, length, MatchResult, Ok};
 ghost use Rattle.cf_read.specs.FileFaults.{IsFileFault};
 ghost use Rattle.cf_read.specs.Looking.{IsReadWhole, IsFileStop};
 ghost use Rattle.cf_read.specs.Reading.{outline_of};
@@ -11,31 +9,14 @@ ghost use Rattle.cf_read.specs.Views.{file_of};
 use crate::codes::methods_with_codes;
 use crate::fault::Stop;
 use crate::file_fault::{FileFault, FileKind};
-use crate::outline::read_outline;
+use crate::outline::outline_of;
 use crate::parts::FileParts;
 use cf_form::ClassFile;
 use sqlite_items::Items;
 use std::alloc::Global;
 
-/// The class file that the bytes are (JVMS 4), attributes other than Code left out. A fault is the first one: indexes of the
-/// pool are looked at after the whole pool, and codes after the whole file.
-pub fn read(alloc: Global, bytes: &[u8]) -> Result<ClassFile, FileFault>
-    requires { length bytes.now < 2 ^ 32 }
-    // What is read is what the bytes say.
-    ensures found { IfOk result (λ file. Reads bytes.now file) }
-    // What they say is read, unless memory runs out.
-    ensures only { (file : File) → Reads bytes.now file → MatchResult result (λ f. f ≡ file) (λ fault. fault.kind ≡ FileKind.Memory) }
-    // Which fault it is.
-    ensures faults { IfErr result (λ fault. IsFileFault bytes.now fault) }
-{
-    match read_whole(alloc, bytes) {
-        Ok(file) => Ok(file),
-        Err(stop) => Err(fault_of(bytes, stop)),
-    }
-}
-
-// The fault, with its place counted from the first byte.
-fn fault_of(bytes: &[u8], stop: Stop) -> FileFault
+/// The fault, with its offset in the file.
+pub(crate) fn fault_of(bytes: &[u8], stop: Stop) -> FileFault
     requires short { length bytes.now < 2 ^ 32 }
     requires stops { IsFileStop bytes.now stop }
     ensures faults { IsFileFault bytes.now result }
@@ -53,11 +34,11 @@ fn fault_of(bytes: &[u8], stop: Stop) -> FileFault
     }
 }
 
-// The class file, each code looked into after the whole file.
-fn read_whole(alloc: Global, bytes: &[u8]) -> Result<ClassFile, Stop>
+/// The class file, each code looked into after the whole file.
+pub(crate) fn read_whole(alloc: Global, bytes: &[u8]) -> Result<ClassFile, Stop>
     ensures { MatchResult result (IsReadWhole bytes.now) (IsFileStop bytes.now) }
 {
-    match read_outline(alloc, bytes) {
+    match outline_of(alloc, bytes) {
         Ok(parts) => with_codes(alloc, bytes, parts),
         Err(stop) => Err(stop),
     }

@@ -1,19 +1,19 @@
-//! Exception tables, their places in bytes as numbers of instructions (JVMS 4.7.3).
+//! Exception tables, their offsets as numbers of instructions (JVMS 4.7.3).
 
-ghost use Rattle.std.specs.Prelude.{◌≡◌, ◌≢◌, ◌<◌, ◌≤◌, ◌+◌, ◌^◌, ℕ, length, map, slice_index, MatchOption, MatchResult, IsTrue};
+ghost use Rattle.std.specs.Prelude.{◌≡◌, ◌<◌, ◌≤◌, ◌^◌, length, map, MatchResult};
 ghost use Rattle.cf_form.specs.ClassFiles.{row_of as row_by, HandlerFits};
-ghost use Rattle.cf_form.specs.Instructions.{IsCode, place};
-ghost use Rattle.cf_instr.specs.Raws.{IsRising};
+ghost use Rattle.cf_form.specs.Instructions.{IsCode, offset};
+ghost use Rattle.cf_instr.specs.Offsets.{AreOffsets, IsNotFalling};
 ghost use Rattle.cf_read.specs.Codes.{IsBadRow, CatchesClass};
-ghost use Rattle.cf_read.specs.Looking.{ArePlaces, AreHandlers, IsTableStop};
+ghost use Rattle.cf_read.specs.Looking.{AreHandlers, IsTableStop};
 ghost use Rattle.cf_read.specs.Views.{row_of};
 
 use crate::fault::{Stop, refused};
 use crate::file_fault::FileKind;
 use crate::numbers::skip;
 use crate::parts::RowParts;
-use cf_form::{Const, Handler, Instr, Kind, has_kind};
-use cf_instr::places;
+use cf_form::{Const, Handler, Instr, Kind, names};
+use cf_instr::{number_at, offsets};
 use sqlite_items::Items;
 use std::alloc::Global;
 
@@ -25,11 +25,14 @@ pub(crate) fn read_handlers(
     rows: &[RowParts],
     from: &[u8],
 ) -> Result<Items<Handler>, Stop>
-    requires short { place code.now (length code.now) ≤ 65535 }
+    requires short { offset code.now (length code.now) ≤ 65535 }
     requires few { length code.now ≤ 65535 }
     ensures { MatchResult result (AreHandlers pool.now code.now (map row_of rows.now)) (IsTableStop pool.now code.now (map row_of rows.now) from.now) }
 {
-    let starts = match places(alloc, code) {
+    if rows.is_empty() {
+        return Ok(Items::new(alloc));
+    }
+    let starts = match offsets(alloc, code) {
         Ok(starts) => starts,
         Err(_) => return Err(Stop::Memory),
     };
@@ -45,36 +48,35 @@ pub(crate) fn read_handlers(
     Ok(handlers)
 }
 
-// The first wrong place of a row, in bytes from the row's first.
+// What is first wrong in a row, so many bytes from its beginning.
 #[derive(Clone, Copy)]
 struct RowFault {
     kind: FileKind,
     within: usize,
 }
 
-// The handler that a row is, by the places of the code.
+// The handler that a row is, by the offsets of the code's instructions.
 fn handler_of(
     pool: &[Const],
     code: &[Instr],
     starts: &[u32],
     row: RowParts,
 ) -> Result<Handler, RowFault>
-    requires places { ArePlaces code.now starts.now }
-    requires rising { IsRising starts.now }
+    requires offsets { AreOffsets code.now starts.now }
+    requires not_falling { IsNotFalling starts.now }
     requires few { length code.now < 2 ^ 31 }
     ensures { MatchResult result (λ h. (row_of row ≡ row_by code.now h) × HandlerFits pool.now (length code.now) h) (λ e. IsBadRow pool.now code.now (row_of row) e.kind e.within) }
 {
-    let beginnings = &starts[..code.len()];
-    let Some(from) = number_at(beginnings, row.from) else {
+    let Some(from) = number_at(starts, row.from as u32) else {
         return Err(wrong(0));
     };
-    let Some(to) = number_at(starts, row.to) else {
+    let Some(to) = number_at(starts, row.to as u32) else {
         return Err(wrong(2));
     };
-    let Some(target) = number_at(beginnings, row.target) else {
+    let Some(target) = number_at(starts, row.target as u32) else {
         return Err(wrong(4));
     };
-    if row.class != 0 && !has_kind(pool, Kind::Class, row.class) {
+    if row.class != 0 && !names(pool, Kind::Class, row.class) {
         return Err(RowFault {
             kind: FileKind::Index,
             within: 6,
@@ -88,23 +90,12 @@ fn handler_of(
     })
 }
 
+// The offset that a row has so many bytes from its beginning is no boundary of the code.
 fn wrong(within: usize) -> RowFault
     ensures { result ≡ record { kind = FileKind.Code; within = within } }
 {
     RowFault {
         kind: FileKind::Code,
         within,
-    }
-}
-
-// The number of the place that is this byte.
-fn number_at(starts: &[u32], at: u16) -> Option<u32>
-    requires many { length starts.now ≤ 2 ^ 31 }
-    requires rising { IsRising starts.now }
-    ensures { MatchOption result ((k : ℕ) → k < length starts.now → slice_index starts.now k ≢ at) (λ m. (m < length starts.now) × (slice_index starts.now m ≡ at)) }
-{
-    match starts.binary_search(&u32::from(at)) {
-        Ok(m) => Some(m as u32),
-        Err(_) => None,
     }
 }

@@ -1,14 +1,42 @@
 //! Whether instructions name entries of the kinds that they need (JVMS 4.9.1).
 
 ghost use Rattle.std.specs.Prelude.{◌↔◌, ◌≡◌, ◌<◌, ◌^◌, IsTrue, MatchOption, IfSome};
+ghost use Rattle.std.specs.List.{AllByRecursion};
 ghost use Rattle.cf_form.specs.ClassFiles.{NamesWell};
 ghost use Rattle.cf_form.specs.Pool.{entry, names};
 ghost use Rattle.std.specs.Option.{option_copied};
-ghost use Rattle.cf_form.specs.Instructions.{number};
+ghost use Rattle.cf_form.specs.Instructions.{number, IsCode, code_bytes};
 ghost use Rattle.cf_read.specs.Looking.{AllNameWell, IsUnnamedAt};
 
-use cf_form::{Const, Instr, Kind, is_kind, needed_by};
+use cf_form::{Const, Instr, Kind, is_of, kind_needed};
 use cf_instr::front_of;
+
+/// The first byte of the first of a code's instructions that doesn't name what it needs. The bytes are gone through only
+/// where there is one.
+pub(crate) fn first_unnamed_of(pool: &[Const], code: &[u8], instrs: &[Instr]) -> Option<usize>
+    requires is_code { IsCode instrs.now }
+    requires spelled { code.now ≡ code_bytes instrs.now }
+    ensures named { MatchOption result (AllByRecursion (NamesWell pool.now) instrs.now) (IsUnnamedAt pool.now code.now) }
+    ensures within { IfSome result (λ at. at < 2 ^ 63) }
+{
+    if all_name_well(pool, instrs) {
+        return None;
+    }
+    first_unnamed(pool, code)
+}
+
+// Whether each of these instructions names what it needs.
+#[inline(never)]
+fn all_name_well(pool: &[Const], instrs: &[Instr]) -> bool
+    ensures { IsTrue result ↔ AllByRecursion (NamesWell pool.now) instrs.now }
+{
+    for instr in instrs {
+        if !names_well(pool, *instr) {
+            return false;
+        }
+    }
+    true
+}
 
 /// The first byte of the first instruction that doesn't name what it needs, behind whole ones that do.
 pub(crate) fn first_unnamed(pool: &[Const], code: &[u8]) -> Option<usize>
@@ -34,7 +62,7 @@ pub(crate) fn first_unnamed(pool: &[Const], code: &[u8]) -> Option<usize>
 fn names_well(pool: &[Const], instr: Instr) -> bool
     ensures { IsTrue result ↔ NamesWell pool.now instr }
 {
-    match needed_by(instr.op) {
+    match kind_needed(instr.op) {
         Some(needed) => has_kind_at(pool, needed, instr.a),
         None => true,
     }
@@ -45,7 +73,7 @@ fn has_kind_at(pool: &[Const], needed: Kind, index: i32) -> bool
     ensures { result ≡ names pool.now needed (number index) }
 {
     match entry_at(pool, index.max(0) as usize) {
-        Some(constant) => is_kind(needed, constant),
+        Some(constant) => is_of(needed, constant),
         None => false,
     }
 }

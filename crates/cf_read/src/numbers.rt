@@ -9,7 +9,7 @@ use crate::file_fault::FileKind;
 
 /// The first `count` bytes, and those behind them.
 #[tactic(auto, unfolding(crate::specs::Reading::some_at))]
-pub(crate) fn read_some(count: usize, bytes: &[u8]) -> Result<(&[u8], &[u8]), Stop>
+pub(crate) fn some_at(count: usize, bytes: &[u8]) -> Result<(&[u8], &[u8]), Stop>
     ensures read { Gives (λ x. (x.0.now, x.1.now)) result (some_at count bytes.now) }
     ensures long { IfOk result (λ x. length x.0.now ≡ count) }
 {
@@ -32,7 +32,7 @@ pub(crate) fn skip(count: usize, bytes: &[u8]) -> &[u8]
 
 /// A byte.
 #[tactic(auto, unfolding(crate::specs::Reading::u1_at))]
-pub(crate) fn read_u1(bytes: &[u8]) -> Result<(u8, &[u8]), Stop>
+pub(crate) fn u1_at(bytes: &[u8]) -> Result<(u8, &[u8]), Stop>
     ensures { Gives (λ x. (x.0, x.1.now)) result (u1_at bytes.now) }
 {
     match bytes {
@@ -43,29 +43,29 @@ pub(crate) fn read_u1(bytes: &[u8]) -> Result<(u8, &[u8]), Stop>
 
 /// Two bytes.
 #[tactic(auto, unfolding(crate::specs::Reading::u2_at))]
-pub(crate) fn read_u2(bytes: &[u8]) -> Result<(u16, &[u8]), Stop>
+pub(crate) fn u2_at(bytes: &[u8]) -> Result<(u16, &[u8]), Stop>
     ensures { Gives (λ x. (x.0, x.1.now)) result (u2_at bytes.now) }
 {
-    let (two, rest) = read_some(2, bytes)?;
+    let (two, rest) = some_at(2, bytes)?;
     Ok((u16::from_be_bytes([two[0], two[1]]), rest))
 }
 
 /// Four bytes.
 #[tactic(auto, unfolding(crate::specs::Reading::u4_at))]
-pub(crate) fn read_u4(bytes: &[u8]) -> Result<(u32, &[u8]), Stop>
+pub(crate) fn u4_at(bytes: &[u8]) -> Result<(u32, &[u8]), Stop>
     ensures { Gives (λ x. (x.0, x.1.now)) result (u4_at bytes.now) }
 {
-    let (four, rest) = read_some(4, bytes)?;
+    let (four, rest) = some_at(4, bytes)?;
     let number = u32::from_be_bytes([four[0], four[1], four[2], four[3]]);
     Ok((number, rest))
 }
 
 /// Eight bytes.
 #[tactic(auto, unfolding(crate::specs::Reading::u8_at))]
-pub(crate) fn read_u8(bytes: &[u8]) -> Result<(u64, &[u8]), Stop>
+pub(crate) fn u8_at(bytes: &[u8]) -> Result<(u64, &[u8]), Stop>
     ensures { Gives (λ x. (x.0, x.1.now)) result (u8_at bytes.now) }
 {
-    let (eight, rest) = read_some(8, bytes)?;
+    let (eight, rest) = some_at(8, bytes)?;
     let number = u64::from_be_bytes([
         eight[0], eight[1], eight[2], eight[3], eight[4], eight[5], eight[6], eight[7],
     ]);
@@ -74,10 +74,10 @@ pub(crate) fn read_u8(bytes: &[u8]) -> Result<(u64, &[u8]), Stop>
 
 /// Two numbers of two bytes.
 #[tactic(auto, unfolding(crate::specs::Reading::two_at))]
-pub(crate) fn read_two(bytes: &[u8]) -> Result<(u16, u16, &[u8]), Stop>
+pub(crate) fn two_at(bytes: &[u8]) -> Result<(u16, u16, &[u8]), Stop>
     ensures { Gives (λ x. ((x.0, x.1), x.2.now)) result (two_at bytes.now) }
 {
-    let (one, rest) = read_u2(bytes)?;
-    let (other, rest) = read_u2(rest)?;
+    let (one, rest) = u2_at(bytes)?;
+    let (other, rest) = u2_at(rest)?;
     Ok((one, other, rest))
 }

@@ -2,7 +2,7 @@
 
 use cf_form::{Const, FieldInfo};
 
-/// A row of an exception table (JVMS 4.7.3), its places in bytes.
+/// A row of an exception table (JVMS 4.7.3), its ends as offsets in bytes.
 #[derive(Clone, Copy)]
 pub(crate) struct RowParts {
     pub(crate) from: u16,

@@ -7,20 +7,20 @@ ghost use Rattle.cf_read.specs.Reading.{index_at, indexes_at, references_at, all
 
 use crate::fault::{Stop, refused};
 use crate::file_fault::FileKind;
-use crate::numbers::{read_u2, skip};
-use cf_form::{Const, Kind, has_kind};
+use crate::numbers::{skip, u2_at};
+use cf_form::{Const, Kind, names};
 
 /// An index of an entry of this kind.
 #[tactic(auto, unfolding(crate::specs::Reading::index_at))]
-pub(crate) fn read_index<'a>(
+pub(crate) fn index_at<'a>(
     pool: &[Const],
     needed: Kind,
     bytes: &'a [u8],
 ) -> Result<(u16, &'a [u8]), Stop>
     ensures { Gives (λ x. (x.0, x.1.now)) result (index_at pool.now needed bytes.now) }
 {
-    let (index, rest) = read_u2(bytes)?;
-    if has_kind(pool, needed, index) {
+    let (index, rest) = u2_at(bytes)?;
+    if names(pool, needed, index) {
         Ok((index, rest))
     } else {
         Err(refused(FileKind::Index, bytes))
@@ -29,35 +29,30 @@ pub(crate) fn read_index<'a>(
 
 // Two indexes, and what is behind them.
 #[tactic(auto, unfolding(crate::specs::Reading::indexes_at))]
-fn read_indexes<'a>(
-    pool: &[Const],
-    one: Kind,
-    other: Kind,
-    bytes: &'a [u8],
-) -> Result<&'a [u8], Stop>
+fn indexes_at<'a>(pool: &[Const], one: Kind, other: Kind, bytes: &'a [u8]) -> Result<&'a [u8], Stop>
     ensures { Gives (λ x. (tt, x.now)) result (indexes_at pool.now one other bytes.now) }
 {
-    let (_one, rest) = read_index(pool, one, bytes)?;
-    let (_other, rest) = read_index(pool, other, rest)?;
+    let (_one, rest) = index_at(pool, one, bytes)?;
+    let (_other, rest) = index_at(pool, other, rest)?;
     Ok(rest)
 }
 
 // Looks at the references of a constant, which stand behind its tag.
 #[tactic(auto, unfolding(crate::specs::Reading::references_at))]
-fn check_references(pool: &[Const], constant: &Const, bytes: &[u8]) -> Result<(), Stop>
+fn references_at(pool: &[Const], constant: &Const, bytes: &[u8]) -> Result<(), Stop>
     ensures { Gives (λ _. tt) result (references_at pool.now constant.now bytes.now) }
 {
     match constant {
         Const::Class(_) | Const::Text(_) => {
-            let (_index, _rest) = read_index(pool, Kind::Utf8, bytes)?;
+            let (_index, _rest) = index_at(pool, Kind::Utf8, bytes)?;
             Ok(())
         }
         Const::Field(_, _) | Const::Method(_, _) | Const::Interface(_, _) => {
-            let _rest = read_indexes(pool, Kind::Class, Kind::NameType, bytes)?;
+            let _rest = indexes_at(pool, Kind::Class, Kind::NameType, bytes)?;
             Ok(())
         }
         Const::NameType(_, _) => {
-            let _rest = read_indexes(pool, Kind::Utf8, Kind::Utf8, bytes)?;
+            let _rest = indexes_at(pool, Kind::Utf8, Kind::Utf8, bytes)?;
             Ok(())
         }
         _ => Ok(()),
@@ -65,12 +60,12 @@ fn check_references(pool: &[Const], constant: &Const, bytes: &[u8]) -> Result<()
 }
 
 /// Looks at the references of all constants of a pool, which begin the bytes.
-pub(crate) fn check_all(pool: &[Const], bytes: &[u8]) -> Result<(), Stop>
+pub(crate) fn all_references_at(pool: &[Const], bytes: &[u8]) -> Result<(), Stop>
     ensures { Gives (λ _. tt) result (all_references_at pool.now pool.now bytes.now) }
 {
     let mut rest = bytes;
     for constant in pool {
-        check_references(pool, constant, skip(1, rest))?;
+        references_at(pool, constant, skip(1, rest))?;
         rest = behind(constant, rest);
     }
     Ok(())

@@ -1,49 +1,48 @@
 //! The fields or methods that were read, by numbers of their names and descriptors.
 
-ghost use Rattle.std.specs.Prelude.{◌≡◌, ◌++◌, ◌∷◌, [], List, ℕ, map, IfOk, OnOk};
+ghost use Rattle.std.specs.Prelude.{◌≡◌, ◌≢◌, ◌++◌, ◌∷◌, [], List, ℕ, map, OnOk};
 ghost use Rattle.std.specs.List.{list_any};
-ghost use Rattle.cf_form.specs.declared.constant.Const.{Const as Constant};
 ghost use Rattle.cf_read.specs.Reading.{key_of, same_key};
 ghost use Rattle.cf_read.specs.Seen.{text_number, member_number, NumbersTexts, AreKept, AreSeen};
 ghost use Rattle.cf_read.specs.Views.{key_at};
 
-use crate::text_numbers::text_numbers;
 use cf_form::Const;
 use std::alloc::{AllocError, Global};
 use std::collections::BTreeSet;
 
-/// Members that were read: the numbers of the pool's texts, one number for each member's name and descriptor, and the
+/// Members that were read: one number for each member's name and descriptor, made of the numbers of these texts, and the
 /// indexes of these.
 #[derive(Drop)]
 pub(crate) struct Members {
-    texts: Vec<u16>,
     numbers: BTreeSet<u32>,
     keys: Vec<(u16, u16)>,
 }
 
-/// No member, of a class file with this pool. A pool of more than 65,535 places is answered as want of memory; no class
-/// file has one.
-pub(crate) fn no_members(alloc: Global, pool: &[Const]) -> Result<Members, AllocError>
-    ensures { IfOk result (λ members. AreKept pool.now members × (members.keys.items ≡ [])) }
+/// No member.
+pub(crate) fn no_members(alloc: Global) -> Members
+    ensures keys { result.keys.items ≡ [] }
+    ensures seen { (texts : List ℕ) → AreSeen texts result.numbers [] }
 {
-    if pool.len() > 65535 {
-        return Err(AllocError);
-    }
-    Ok(Members {
-        texts: text_numbers(alloc, pool)?,
+    Members {
         numbers: BTreeSet::new(alloc),
         keys: Vec::new(alloc),
-    })
+    }
 }
 
 /// Whether one of the members has this name and this descriptor, as texts. The pool is for the contract alone.
-pub(crate) fn is_among(pool: &[Const], members: &Members, name: u16, descriptor: u16) -> bool
-    requires { AreKept pool.now members.now }
+pub(crate) fn is_among(
+    pool: &[Const],
+    texts: &[u16],
+    members: &Members,
+    name: u16,
+    descriptor: u16,
+) -> bool
+    requires { AreKept pool.now texts.now members.now }
     ensures { result ≡ list_any (same_key (key_of pool.now name descriptor)) (map (key_at pool.now) members.now.keys.items) }
 {
     is_seen(
         pool,
-        &members.texts,
+        texts,
         &members.keys,
         &members.numbers,
         name,
@@ -52,11 +51,16 @@ pub(crate) fn is_among(pool: &[Const], members: &Members, name: u16, descriptor:
 }
 
 /// Adds a member, unless memory is wanting.
-pub(crate) fn keep(members: &mut Members, name: u16, descriptor: u16) -> Result<(), AllocError>
+pub(crate) fn keep(
+    texts: &[u16],
+    members: &mut Members,
+    name: u16,
+    descriptor: u16,
+) -> Result<(), AllocError>
     ensures keys { OnOk result (members.new.keys.items ≡ members.old.keys.items ++ (name, descriptor) ∷ []) }
-    ensures kept { OnOk result ((pool : List Constant) → AreKept pool members.old → AreKept pool members.new) }
+    ensures seen { OnOk result (AreSeen texts.now members.old.numbers members.old.keys.items → AreSeen texts.now members.new.numbers members.new.keys.items) }
 {
-    see(&members.texts, &mut members.numbers, name, descriptor)?;
+    see(texts, &mut members.numbers, name, descriptor)?;
     members.keys.push((name, descriptor))?;
     Ok(())
 }
@@ -71,7 +75,7 @@ fn is_seen(
     name: u16,
     descriptor: u16,
 ) -> bool
-    requires numbered { NumbersTexts pool.now texts.now }
+    requires numbered { keys.now ≢ [] → NumbersTexts pool.now texts.now }
     requires seen { AreSeen texts.now numbers.now keys.now }
     ensures { result ≡ list_any (same_key (key_of pool.now name descriptor)) (map (key_at pool.now) keys.now) }
 {

@@ -1,18 +1,40 @@
-//! The texts of a pool as numbers.
+//! The texts of a pool as numbers, made once, for the first list of two members or more.
 
-ghost use Rattle.std.specs.Prelude.{◌≡◌, ◌^◌, ◌<◌, List, ℕ, length, Some, IfOk};
+ghost use Rattle.std.specs.Prelude.{◌≡◌, ◌^◌, ◌<◌, List, ℕ, length, Some, IfOk, OnOk};
 ghost use Rattle.std.specs.Map.{update};
 ghost use Rattle.std.specs.Option.{unwrap_or};
 ghost use Rattle.std.specs.Str.{bytes_eq};
 ghost use Rattle.cf_form.specs.Pool.{text_by};
-ghost use Rattle.cf_read.specs.Seen.{NumbersTexts, first_of, IsNumber};
+ghost use Rattle.cf_read.specs.Seen.{NumbersTexts, NumbersIfAny, first_of, IsNumber};
 
 use cf_form::Const;
 use std::alloc::{AllocError, Global};
 use std::collections::BTreeMap;
 
-/// A number for each index of the pool: the first index with the same text, and 0 where the index names no text.
-pub(crate) fn text_numbers(alloc: Global, pool: &[Const]) -> Result<Vec<u16>, AllocError>
+/// Numbers the texts of a pool for a list of so many members, unless no two can be equal or it is done. A pool of more than
+/// 65,535 entries is answered as want of memory; no class file has one.
+pub(crate) fn number_for(
+    alloc: Global,
+    pool: &[Const],
+    count: u16,
+    texts: &mut Vec<u16>,
+) -> Result<(), AllocError>
+    requires { NumbersIfAny pool.now texts.old.items }
+    ensures many { OnOk result (1 < count → NumbersTexts pool.now texts.new.items) }
+    ensures any { OnOk result (NumbersIfAny pool.now texts.new.items) }
+{
+    if count < 2 || !texts.is_empty() {
+        return Ok(());
+    }
+    if pool.len() > 65535 {
+        return Err(AllocError);
+    }
+    *texts = text_numbers(alloc, pool)?;
+    Ok(())
+}
+
+// A number for each index of the pool: the first index with the same text, and 0 where the index names no text.
+fn text_numbers(alloc: Global, pool: &[Const]) -> Result<Vec<u16>, AllocError>
     requires { length pool.now < 2 ^ 16 }
     ensures { IfOk result (λ texts. NumbersTexts pool.now texts.items) }
 {

@@ -1,14 +1,14 @@
--- What is read of a file of version 49.0 has a spelling: its outline without the attributes that were passed over.
-use Rattle.std.proofs.Common.{◌≡◌, ◌≢◌, ℕ, zero, suc, ◌+◌, ◌*◌, ◌<◌, ◌≤◌, ◌^◌, List, [], ◌∷◌, ◌++◌, length, map, Option, None, Some, refl, sym, subst, ap, arith, Bool, true, false, ◌⊎◌, inl, inr, ⊎_elim, ◌∙◌}
+-- What is read of a file has a spelling: its outline without the attributes that were passed over.
+use Rattle.std.proofs.Common.{◌≡◌, ℕ, zero, suc, ◌+◌, ◌*◌, ◌<◌, ◌^◌, List, [], ◌∷◌, ◌++◌, length, map, Option, None, Some, refl, sym, subst, ap, arith, Bool, true, false, ◌⊎◌, inl, inr, ⊎_elim}
 use Rattle.std.specs.List.{flat_map, AllByRecursion}
 use Rattle.std.specs.Str.{bytes_eq}
 use Rattle.std.specs.Bool.{Decides}
 use Rattle.std.proofs.lemmas.List.{length-append}
 use Rattle.std.proofs.lemmas.Slice.Eq.{bytes_eq-Decides}
 use Rattle.std.proofs.lemmas.Bool.Decides.{eqb_tells}
-use Rattle.cf_form.specs.Pool.{pool_of, entry, text_at, Fits2, u2, u4}
+use Rattle.cf_form.specs.Pool.{text_at, Fits2, u2, u4}
 use Rattle.cf_form.specs.Outline.{Attribute, Member, CodeOutline, code_outline_bytes, CodeOutlineFits, Outline, outline_bytes, OutlineFits, AllFit, MemberFits, AttributeFits, Row, row_bytes}
-use Rattle.cf_form.specs.ClassFiles.{code_name, IsOther, HasCode, HasCodeOrNone, HoldsCode, IsMethod, IsField, Each, key, IsNamed, AreDifferent, AreNamed, Says, ReadsBy, Reads, IsFirstCodeName, IsBare, HasNone, HasCodeAlone, IsPlain, Spelled}
+use Rattle.cf_form.specs.ClassFiles.{code_name, HasCode, HasCodeOrNone, HoldsCode, IsMethod, IsField, Each, key, IsNamed, AreDifferent, Says, Reads, IsFirstCodeName, IsBare, HasNone, HasCodeAlone, Spelled}
 use Rattle.cf_form.specs.declared.class_file.ClassFile.{ClassFile}
 use Rattle.cf_form.specs.declared.class_file.FieldInfo.{FieldInfo}
 use Rattle.cf_form.specs.declared.class_file.MethodInfo.{MethodInfo}
@@ -194,8 +194,8 @@ bare_fields pool (m ∷ ms) (f ∷ fs) fit named says =
       plain = (refl, rest.plain);
     }
 
-pub rewritten : (file : ClassFile) (bytes : List ℕ) → Reads bytes file → file.minor ≡ 0 → file.major ≡ 49 → (spelled : List ℕ) × Spelled file spelled
-rewritten file bytes reads minor major =
+pub rewritten : (file : ClassFile) (bytes : List ℕ) → Reads bytes file → (spelled : List ℕ) × Spelled file spelled
+rewritten file bytes reads =
     let old : Outline = reads.0 in
     let fits = reads.1.fits in
     let says = reads.1.says in
@@ -215,6 +215,7 @@ rewritten file bytes reads minor major =
     } in
     let fit : OutlineFits o = record {
       minor = fits.minor;
+      major = fits.major;
       constants = fits.constants;
       count = fits.count;
       access = fits.access;
@@ -228,8 +229,7 @@ rewritten file bytes reads minor major =
     let said : Says o file = record {
       minor = says.minor;
       major = says.major;
-      not_older = says.not_older;
-      not_newer = says.not_newer;
+      version = says.version;
       pool = says.pool;
       refers = says.refers;
       access = says.access;
@@ -249,8 +249,6 @@ rewritten file bytes reads minor major =
         o,
         record { fits = fit; is_spelled = refl; says = said },
         record {
-          minor = says.minor ∙ minor;
-          major = says.major ∙ major;
           fields = fields.plain;
           methods = subst (λ (pool : List Const). AllByRecursion (HasCodeAlone pool) methods.members) (sym says.pool) methods.plain;
           attributes = refl;

@@ -1,10 +1,10 @@
--- Class files that tests write, and that each has a spelling.
+-- The class file that the test writes has a spelling.
 use Rattle.std.proofs.Common.{◌≡◌, ◌≢◌, ℕ, zero, suc, ◌<◌, List, [], ◌∷◌, None, Some, negsuc, ap, refl, arith, rules}
 use Rattle.std.specs.Prelude.{codes, IsTrue}
 use Rattle.std.specs.List.{AllByRecursion}
 use Rattle.cf_mutf8.specs.ModifiedUtf8 as utf8
 use Rattle.cf_form.specs.Pool.{text_at, kind_needed, ConstantFits, refers_well}
-use Rattle.cf_form.specs.Instructions.{IsCode, bytes_of, Fits, place, jumps, code_bytes}
+use Rattle.cf_form.specs.Instructions.{IsCode, bytes_of, Fits, offset, jumps, code_bytes}
 use Rattle.cf_form.specs.Opcodes.{shape_of}
 use Rattle.cf_form.specs.Outline.{Attribute, Member, CodeOutline, code_outline_bytes, CodeOutlineFits, Outline, outline_bytes, OutlineFits}
 use Rattle.cf_form.specs.ClassFiles.{HoldsCode, HasCode, IsMethod, AreNamed, key, code_name, Says, IsPlain, Spelled}
@@ -13,71 +13,10 @@ use Rattle.cf_write.specs.Examples.{full_pool, full_code}
 use Rattle.cf_form.specs.declared.constant.Const.{Const}
 use Rattle.cf_form.specs.declared.constant.Const.TheVariants.{Utf8, Int, Float, Long, Double, Class, Text, Field, Method, Interface, NameType}
 
-abbrev pub smallest : ClassFile
-smallest = record { minor = 0; major = 49; pool = Class 2 ∷ Utf8 (65 ∷ []) ∷ Class 4 ∷ Utf8 (66 ∷ []) ∷ []; access = 33; this = 1; parent = 3; interfaces = []; fields = []; methods = [] }
-
-abbrev outline : Outline
-outline = record {
-  minor = 0;
-  major = 49;
-  constants = Class 2 ∷ Utf8 (65 ∷ []) ∷ Class 4 ∷ Utf8 (66 ∷ []) ∷ [];
-  access = 33;
-  this = 1;
-  parent = 3;
-  interfaces = [];
-  fields = [];
-  methods = [];
-  attributes = [];
-}
-
-fits : OutlineFits outline
-unfolding utf8.character_bytes utf8.units_of utf8.unit_bytes
-fits = record {
-  minor = omega arith;
-  constants = search rules;
-  count = omega arith;
-  access = omega arith;
-  this = omega arith;
-  parent = omega arith;
-  interfaces = search rules;
-  fields = search rules;
-  methods = search rules;
-  attributes = search rules;
-}
-
-says : Says outline smallest
-says = record {
-  minor = refl;
-  major = refl;
-  not_older = omega arith;
-  not_newer = omega arith;
-  pool = refl;
-  refers = search rules;
-  access = refl;
-  this = refl;
-  is_class = search rules;
-  parent = refl;
-  has_parent = search rules;
-  interfaces = refl;
-  are_classes = search rules;
-  fields_named = search rules;
-  fields = tt;
-  methods_named = search rules;
-  methods = tt;
-}
-
-plain : IsPlain outline
-plain = record { minor = refl; major = refl; fields = tt; methods = tt; attributes = refl }
-
-pub smallest_spelled : (bytes : List ℕ) × Spelled smallest bytes
-smallest_spelled = (outline_bytes outline, (outline, record { fits = fits; is_spelled = refl; says = says }, plain))
-
--- ---- a file with an entry of each kind, a field and two methods
-
 abbrev pub full : ClassFile
 full = record {
-  minor = 0;
-  major = 49;
+  minor = 3;
+  major = 52;
   pool = full_pool;
   access = 33;
   this = 1;
@@ -91,8 +30,8 @@ abbrev code_outline : CodeOutline
 code_outline = record {
   max_stack = 2;
   max_locals = 1;
-  code = 0x03 ∷ 0x99 ∷ 0 ∷ 7 ∷ 0x14 ∷ 0 ∷ 6 ∷ 0x58 ∷ 0xB1 ∷ [];
-  rows = record { from = 0; to = 9; target = 8; class = 1 } ∷ [];
+  code = 0x03 ∷ 0x99 ∷ 0 ∷ 10 ∷ 0x14 ∷ 0 ∷ 6 ∷ 0x58 ∷ 0xB8 ∷ 0 ∷ 19 ∷ 0xB1 ∷ [];
+  rows = record { from = 1; to = 8; target = 12; class = 1 } ∷ [];
   attributes = [];
 }
 
@@ -113,8 +52,8 @@ constants =
 
 abbrev full_outline : Outline
 full_outline = record {
-  minor = 0;
-  major = 49;
+  minor = 3;
+  major = 52;
   constants = constants;
   access = 33;
   this = 1;
@@ -132,6 +71,7 @@ constants_fit = search rules
 full_fits : OutlineFits full_outline
 full_fits = record {
   minor = omega arith;
+  major = omega arith;
   constants = constants_fit;
   count = omega arith;
   access = omega arith;
@@ -154,11 +94,11 @@ code_fits = record {
 }
 
 is_code : IsCode full_code.instrs
-unfolding bytes_of Fits place jumps shape_of
+unfolding bytes_of Fits offset jumps shape_of
 is_code = record { some = omega arith; fits = search rules; targets = search rules }
 
 holds : HoldsCode full_pool (code_outline_bytes code_outline) full_code
-unfolding bytes_of code_bytes place jumps shape_of kind_needed
+unfolding bytes_of code_bytes offset jumps shape_of kind_needed
 holds = record {
   outline = code_outline;
   fits = code_fits;
@@ -192,8 +132,7 @@ full_says : Says full_outline full
 full_says = record {
   minor = refl;
   major = refl;
-  not_older = omega arith;
-  not_newer = omega arith;
+  version = refl;
   pool = refl;
   refers = full_refers;
   access = refl;
@@ -220,8 +159,6 @@ not_before (suc (suc (suc (suc (suc i))))) l e = absurd (omega arith)
 
 full_plain : IsPlain full_outline
 full_plain = record {
-  minor = refl;
-  major = refl;
   fields = (refl, tt);
   methods = (tt, ((((refl, not_before), (code_outline, code_fits, refl, refl)), tt), tt));
   attributes = refl;

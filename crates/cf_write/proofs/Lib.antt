@@ -3,5 +3,5 @@ pub mod Bare
 mod Dropped
 pub mod CodeNames
 pub mod Examples
-pub mod Places
+pub mod Offsets
 pub mod Spellings

@@ -3,7 +3,7 @@ use Rattle.std.proofs.Common.{◌≡◌, ℕ, ◌+◌, ◌<◌, List, [], ◌∷
 use Rattle.std.specs.List.{flat_map, AllByRecursion}
 use Rattle.std.proofs.lemmas.List.{length-map, append-nil}
 use Rattle.std.proofs.lemmas.List.Folds.{flat_map-map}
-use Rattle.cf_form.specs.Pool.{u2, u4, constant_bytes, ConstantFits, places, pool_of, Fits2}
+use Rattle.cf_form.specs.Pool.{u2, u4, constant_bytes, ConstantFits, entries_of, pool_of, Fits2}
 use Rattle.cf_form.specs.Outline.{Attribute, Member, row_bytes, counted, attribute_bytes, member_bytes, Outline}
 use Rattle.cf_form.specs.ClassFiles.{HoldsCode, HasCodeOrNone, IsOther, IsField, IsMethod, Each, row_of, HandlerFits, IsFirstCodeName, IsBare, HasNone, HasCodeAlone, ReadsBy, IsPlain, Spelled}
 use Rattle.cf_form.specs.declared.class_file.ClassFile.{ClassFile}
@@ -17,46 +17,46 @@ use Rattle.cf_write.specs.Spelling.{first_code, field_bytes, handler_bytes, code
 use Rattle.cf_write.specs.Writable.{TextFits, HandlerIsWithin, CodeIsWritable, CodeIsWritableOrNone, MethodIsWritable, IsWritable}
 use Rattle.cf_write.proofs.Bare.{bare}
 use Rattle.cf_write.proofs.CodeNames.{first_found}
-use Rattle.cf_write.proofs.Places.{code-length}
+use Rattle.cf_write.proofs.Offsets.{code-length}
 
 -- ---- the pool
 
--- the second place of a constant has no byte
-places_bytes : (c : Const) (pool : List Const) → flat_map constant_bytes (places c ++ pool) ≡ constant_bytes c ++ flat_map constant_bytes pool
-places_bytes (Utf8 text) pool = refl
-places_bytes (Int x) pool = refl
-places_bytes (Float x) pool = refl
-places_bytes (Long x) pool = refl
-places_bytes (Double x) pool = refl
-places_bytes (Class x) pool = refl
-places_bytes (Text x) pool = refl
-places_bytes (Field x y) pool = refl
-places_bytes (Method x y) pool = refl
-places_bytes (Interface x y) pool = refl
-places_bytes (NameType x y) pool = refl
-places_bytes Rest pool = refl
+-- the second entry of a constant has no byte
+entries_bytes : (c : Const) (pool : List Const) → flat_map constant_bytes (entries_of c ++ pool) ≡ constant_bytes c ++ flat_map constant_bytes pool
+entries_bytes (Utf8 text) pool = refl
+entries_bytes (Int x) pool = refl
+entries_bytes (Float x) pool = refl
+entries_bytes (Long x) pool = refl
+entries_bytes (Double x) pool = refl
+entries_bytes (Class x) pool = refl
+entries_bytes (Text x) pool = refl
+entries_bytes (Field x y) pool = refl
+entries_bytes (Method x y) pool = refl
+entries_bytes (Interface x y) pool = refl
+entries_bytes (NameType x y) pool = refl
+entries_bytes Rest pool = refl
 
 pool_bytes : (cs : List Const) → flat_map constant_bytes (pool_of cs) ≡ flat_map constant_bytes cs
 pool_bytes [] = refl
-pool_bytes (c ∷ cs) = places_bytes c (pool_of cs) ∙ ap (λ l. constant_bytes c ++ l) (pool_bytes cs)
+pool_bytes (c ∷ cs) = entries_bytes c (pool_of cs) ∙ ap (λ l. constant_bytes c ++ l) (pool_bytes cs)
 
-places_texts : (c : Const) (pool : List Const) → ConstantFits c → AllByRecursion TextFits pool → AllByRecursion TextFits (places c ++ pool)
-places_texts (Utf8 text) pool f h = (f.1, h)
-places_texts (Int x) pool f h = (tt, h)
-places_texts (Float x) pool f h = (tt, h)
-places_texts (Long x) pool f h = (tt, (tt, h))
-places_texts (Double x) pool f h = (tt, (tt, h))
-places_texts (Class x) pool f h = (tt, h)
-places_texts (Text x) pool f h = (tt, h)
-places_texts (Field x y) pool f h = (tt, h)
-places_texts (Method x y) pool f h = (tt, h)
-places_texts (Interface x y) pool f h = (tt, h)
-places_texts (NameType x y) pool f h = (tt, h)
-places_texts Rest pool f h = absurd f
+entries_texts : (c : Const) (pool : List Const) → ConstantFits c → AllByRecursion TextFits pool → AllByRecursion TextFits (entries_of c ++ pool)
+entries_texts (Utf8 text) pool f h = (f.1, h)
+entries_texts (Int x) pool f h = (tt, h)
+entries_texts (Float x) pool f h = (tt, h)
+entries_texts (Long x) pool f h = (tt, (tt, h))
+entries_texts (Double x) pool f h = (tt, (tt, h))
+entries_texts (Class x) pool f h = (tt, h)
+entries_texts (Text x) pool f h = (tt, h)
+entries_texts (Field x y) pool f h = (tt, h)
+entries_texts (Method x y) pool f h = (tt, h)
+entries_texts (Interface x y) pool f h = (tt, h)
+entries_texts (NameType x y) pool f h = (tt, h)
+entries_texts Rest pool f h = absurd f
 
 pool_texts : (cs : List Const) → AllByRecursion ConstantFits cs → AllByRecursion TextFits (pool_of cs)
 pool_texts [] h = tt
-pool_texts (c ∷ cs) h = places_texts c (pool_of cs) h.0 (pool_texts cs h.1)
+pool_texts (c ∷ cs) h = entries_texts c (pool_of cs) h.0 (pool_texts cs h.1)
 
 -- ---- lists of members
 
@@ -182,7 +182,7 @@ one_spelling file one other s t = spelled_is file one s ∙ sym (spelled_is file
 
 within : (pool : List Const) (n : ℕ) (hs : List Handler) → AllByRecursion (HandlerFits pool n) hs → AllByRecursion (HandlerIsWithin n) hs
 within pool n [] f = tt
-within pool n (h ∷ hs) f = ((omega (arith, f.0.0), f.0.1, omega (arith, f.0.2)), within pool n hs f.1)
+within pool n (h ∷ hs) f = ((f.0.0, f.0.1, f.0.2), within pool n hs f.1)
 
 holds_writable : (pool : List Const) (info : List ℕ) (code : Code) → HoldsCode pool info code → CodeIsWritable code
 holds_writable pool info code h = record {

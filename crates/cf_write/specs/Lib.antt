@@ -1,4 +1,6 @@
+-- What a reader must believe: the one spelling of a class file.
 pub mod Spelling
+-- For proofs only.
 pub mod Writable
-pub mod Places
+pub mod Offsets
 pub mod Examples

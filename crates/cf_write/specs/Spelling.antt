@@ -25,6 +25,7 @@ abbrev pub first_code_from : ℕ → List Const → ℕ
 first_code_from at [] = 0
 first_code_from at (constant ∷ constants) = if is_code_name constant then at else first_code_from (at + 1) constants
 
+-- the index of the first entry that is the text `Code`; 0 where none is
 abbrev pub first_code : List Const → ℕ
 first_code pool = first_code_from 1 pool
 

@@ -7,7 +7,7 @@ ghost use Rattle.cf_mutf8.specs.ModifiedUtf8.{encoded};
 ghost use Rattle.cf_form.specs.Pool.{u2, Fits2, constant_bytes};
 ghost use Rattle.cf_write.specs.Writable.{TextFits};
 
-use crate::no_memory::NoMemory;
+use crate::NoMemory;
 use crate::numbers::{put_tag_eight, put_tag_four, put_tag_pair, put_tag_two, put_two};
 use cf_form::Const;
 

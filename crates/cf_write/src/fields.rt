@@ -1,33 +1,14 @@
-//! The interfaces and the fields of a class.
+//! The fields of a class.
 
 ghost use Rattle.std.specs.Prelude.{◌≡◌, ◌++◌, length, OnOk};
 ghost use Rattle.std.specs.List.{flat_map};
-ghost use Rattle.cf_form.specs.Pool.{u2, Fits2};
+ghost use Rattle.cf_form.specs.Pool.{Fits2};
 ghost use Rattle.cf_form.specs.Outline.{counted};
 ghost use Rattle.cf_write.specs.Spelling.{field_bytes};
 
-use crate::no_memory::NoMemory;
+use crate::NoMemory;
 use crate::numbers::put_two;
 use cf_form::FieldInfo;
-
-/// Appends the interfaces after their count (JVMS 4.1).
-pub fn put_interfaces(into: &mut Vec<u8>, interfaces: &[u16]) -> Result<(), NoMemory>
-    requires { Fits2 (length interfaces.now) }
-    ensures { OnOk result (into.new.items ≡ into.old.items ++ counted u2 interfaces.now) }
-{
-    put_two(into, interfaces.len() as u16)?;
-    put_each_interface(into, interfaces)
-}
-
-// Appends the interfaces.
-fn put_each_interface(into: &mut Vec<u8>, interfaces: &[u16]) -> Result<(), NoMemory>
-    ensures { OnOk result (into.new.items ≡ into.old.items ++ flat_map u2 interfaces.now) }
-{
-    for interface in interfaces {
-        put_two(into, *interface)?;
-    }
-    Ok(())
-}
 
 /// Appends the fields after their count (JVMS 4.1, 4.5).
 pub fn put_fields(into: &mut Vec<u8>, fields: &[FieldInfo]) -> Result<(), NoMemory>

@@ -11,8 +11,7 @@ pub fn spelling()
     ensures exact { (file : ClassFile) (bytes : List ℕ) → Spelled file bytes → bytes ≡ spelling_of file }
 {}
 
-/// What is read of a file of version 49.0 can be written.
+/// What is read can be written.
 pub fn rewriting()
-    ensures { (file : ClassFile) (bytes : List ℕ) → Reads bytes file → file.minor ≡ 0 → file.major ≡ 49
-        → (spelled : List ℕ) × Spelled file spelled }
+    ensures { (file : ClassFile) (bytes : List ℕ) → Reads bytes file → (spelled : List ℕ) × Spelled file spelled }
 {}

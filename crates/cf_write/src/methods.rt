@@ -7,8 +7,8 @@ ghost use Rattle.cf_form.specs.Outline.{counted};
 ghost use Rattle.cf_write.specs.Spelling.{attributes_bytes, method_bytes};
 ghost use Rattle.cf_write.specs.Writable.{CodeIsWritableOrNone, MethodIsWritable};
 
+use crate::NoMemory;
 use crate::codes::put_code;
-use crate::no_memory::NoMemory;
 use crate::numbers::put_two;
 use cf_form::{Code, MethodInfo};
 use std::alloc::Global;

@@ -4,7 +4,7 @@ ghost use Rattle.std.specs.Prelude.{◌≡◌, ◌++◌, ◌∷◌, OnOk};
 ghost use Rattle.std.specs.Int.{w64, to_be_bytes};
 ghost use Rattle.cf_form.specs.Pool.{u2, u4};
 
-use crate::no_memory::NoMemory;
+use crate::NoMemory;
 
 /// Appends a number in two bytes.
 pub fn put_two(into: &mut Vec<u8>, number: u16) -> Result<(), NoMemory>

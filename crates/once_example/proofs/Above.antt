@@ -1,16 +1,16 @@
 -- The law of cycles for the atomic cell.
-use Rattle.std.proofs.Common.{◌≡◌, ◌≢◌, ℕ, zero, suc, ◌≤◌, List, Bool, true, false, ◌∙◌, sym, ap, refl, nat_eq, nat_le, ◌&&◌, if◌then◌else◌, arith, eqb-true, eq-eqb, true≢false, leb-true}
+use Rattle.std.proofs.Common.{◌≡◌, ◌≢◌, ℕ, zero, suc, ◌<◌, ◌≤◌, ◌⊎◌, inl, inr, List, Bool, true, false, ◌∙◌, sym, ap, refl, nat_eq, nat_le, ◌&&◌, if◌then◌else◌, arith, eqb-true, eq-eqb, true≢false, leb-true}
 use Rattle.runs.specs.declared.turn.Turn.{Turn}
-use Rattle.runs.specs.System.{Waits, Ended, reach}
+use Rattle.runs.specs.System.{AbsentHaveEnded, KeptBy, Waits, Ended, put, reach}
 use Rattle.runs.specs.Refines.{Implements}
-use Rattle.runs.specs.System.{KeptBy}
 use Rattle.runs.specs.Waiting.{HasCycles, WaitsForUnfinished}
-use Rattle.runs.proofs.Simulated.{kept_by_runs}
+use Rattle.runs.proofs.Keeping.{kept_by_runs}
+use Rattle.runs.proofs.Putting.{each}
 use Rattle.runs.proofs.Cycling.{law_of_cycles}
 use Rattle.runs.proofs.Refining.{refines_implements}
-use Rattle.once_example.specs.Upper.{Cell, Empty, Running, Done, Task, Reads, Inside, Tells, State, is_running, put, content, move, upper}
+use Rattle.once_example.specs.Upper.{Cell, Empty, Running, Done, Task, Reads, Inside, Tells, State, is_running, content, move, upper}
 use Rattle.once_example.specs.Lower.{lower}
-use Rattle.once_example.proofs.Once.{each, refines, busy, busy_goes_on, next_unlike, content_idle, only}
+use Rattle.once_example.proofs.Once.{refines, busy, busy_goes_on, next_unlike, content_idle, only}
 
 abbrev pub runs_inside : Task → Bool
 runs_inside (Reads n) = false
@@ -103,15 +103,26 @@ module _ (ends : ℕ → ℕ) (n reads : ℕ) where
       go true e = refl
       go false e = absurd (busy (h.outside t e))
 
-  there : (s : State) → Sound n s → (t : ℕ) → move ends s t (s.tasks t) s.cell ≢ Ended → t ≤ n
-  there s h t ne = leb-true t n (right (nat_le 1 t) (nat_le t n) (in_range s h t (λ e. ne (rw e refl))))
+  absent : (s : State) → Sound n s → AbsentHaveEnded (upper ends n reads) s
+  absent s h t out = ended (h.outside t (out_of_range out))
     where
+      ended : s.tasks t ≡ Reads 0 → move ends s t (s.tasks t) s.cell ≡ Ended
+      ended e = rw e refl
+
       right : (a b : Bool) → (a && b) ≡ true → b ≡ true
       right true b e = e
       right false b e = absurd (true≢false (sym e))
 
+      past : n < t → (b : Bool) → (nat_le 1 t && nat_le t n) ≡ b → b ≡ false
+      past lt true e = let le : t ≤ n = leb-true t n (right (nat_le 1 t) (nat_le t n) e) in absurd (omega arith)
+      past lt false e = refl
+
+      out_of_range : (t ≡ 0) ⊎ (n < t) → (nat_le 1 t && nat_le t n) ≡ false
+      out_of_range (inl none) = rw none refl
+      out_of_range (inr lt) = past lt _ refl
+
   cycles : HasCycles (upper ends n reads)
-  cycles = law_of_cycles (upper ends n reads) (λ turns t ne. there _ (sound turns) t ne) (λ turns. waits_for _ (sound turns))
+  cycles = law_of_cycles (upper ends n reads) (λ turns. absent _ (sound turns)) (λ turns. waits_for _ (sound turns))
 
   pub implements : Implements (lower ends n reads) (upper ends n reads)
   implements = refines_implements (lower ends n reads) (upper ends n reads) 6 (omega arith) (refines ends n reads) cycles

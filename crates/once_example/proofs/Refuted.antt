@@ -5,9 +5,10 @@ use Rattle.runs.specs.System.{Waits, Ended, reach}
 use Rattle.runs.specs.Refines.{Refines, Follows}
 use Rattle.runs.specs.Waiting.{DoesWait}
 use Rattle.once_example.specs.Upper.{Cell, Running, Task, Reads, Inside, Tells, State, is_running, move, upper}
-use Rattle.once_example.specs.Lower.{Sleep, Look, opens_at, Place}
+use Rattle.once_example.specs.Lower.{Sleep, Look, opens_at, Position}
 use Rattle.once_example.specs.Wrong.{no_exchange, stays_evaluating, with_step}
-use Rattle.once_example.proofs.Once.{same_or_not, next_unlike}
+use Rattle.runs.proofs.Putting.{same_or_not}
+use Rattle.once_example.proofs.Once.{next_unlike}
 use Rattle.once_example.proofs.Above.{Sound, sound, runs_inside, waits_at}
 
 waits_reads : (ends : ℕ → ℕ) (s : State) (t : ℕ) (task : Task) (cell : Cell) → move ends s t task cell ≡ Waits → runs_inside task ≡ false
@@ -46,26 +47,26 @@ first_opens_none reads false = refl
 abbrev alone : List Turn
 alone = record { thread = 1; count = 12 } ∷ []
 
-alone_places : ℕ → Place
-alone_places = (reach (with_step stays_evaluating (λ t. 0) 1 2) alone).state.places
+alone_positions : ℕ → Position
+alone_positions = (reach (with_step stays_evaluating (λ t. 0) 1 2) alone).state.positions
 
-alone_one : opens_at (alone_places 1) (Sleep 0 0) ≡ false
-unfolding alone_places
+alone_one : opens_at (alone_positions 1) (Sleep 0 0) ≡ false
+unfolding alone_positions
 alone_one = refl
 
-alone_other : (u : ℕ) → nat_eq u 1 ≡ false → opens_at (alone_places u) (Sleep 0 0) ≡ false
-unfolding alone_places
+alone_other : (u : ℕ) → nat_eq u 1 ≡ false → opens_at (alone_positions u) (Sleep 0 0) ≡ false
+unfolding alone_positions
 alone_other u e = rw e (first_opens_none 2 (nat_le 1 u && nat_le u 1))
 
-alone_none : (u : ℕ) → opens_at (alone_places u) (Sleep 0 0) ≡ false
+alone_none : (u : ℕ) → opens_at (alone_positions u) (Sleep 0 0) ≡ false
 alone_none u =
     ⊎_elim
-    (λ e. subst (λ v. opens_at (alone_places v) (Sleep 0 0) ≡ false) {x = 1} {y = u} (sym e) alone_one)
+    (λ e. subst (λ v. opens_at (alone_positions v) (Sleep 0 0) ≡ false) {x = 1} {y = u} (sym e) alone_one)
     (λ ne. alone_other u (ne_eqb u 1 ne))
     (same_or_not u 1)
 
 not_evaluating : (b : ℕ) → Refines (with_step stays_evaluating (λ t. 0) 1 2) (upper (λ t. 0) 1 2) b → ⊥
-unfolding alone_places
+unfolding alone_positions
 not_evaluating b h = ⊎_elim above (λ f. true≢false (sym f.1.2 ∙ alone_none f.0)) (a.1.states.waits 1 refl)
   where
     a : (above : List Turn) × Follows (with_step stays_evaluating (λ t. 0) 1 2) (upper (λ t. 0) 1 2) b (reach (with_step stays_evaluating (λ t. 0) 1 2) alone) (reach (upper (λ t. 0) 1 2) above)
@@ -84,33 +85,33 @@ not_evaluating b h = ⊎_elim above (λ f. true≢false (sym f.1.2 ∙ alone_non
 abbrev two : List Turn
 two = record { thread = 1; count = 2 } ∷ record { thread = 2; count = 4 } ∷ record { thread = 1; count = 3 } ∷ []
 
-two_places : ℕ → Place
-two_places = (reach (with_step no_exchange (λ t. 1) 2 1) two).state.places
+two_positions : ℕ → Position
+two_positions = (reach (with_step no_exchange (λ t. 1) 2 1) two).state.positions
 
-two_one : opens_at (two_places 1) (Sleep 0 0) ≡ false
-unfolding two_places
+two_one : opens_at (two_positions 1) (Sleep 0 0) ≡ false
+unfolding two_positions
 two_one = refl
 
-two_two : opens_at (two_places 2) (Sleep 0 0) ≡ false
-unfolding two_places
+two_two : opens_at (two_positions 2) (Sleep 0 0) ≡ false
+unfolding two_positions
 two_two = refl
 
-two_other : (u : ℕ) → nat_eq u 1 ≡ false → nat_eq u 2 ≡ false → opens_at (two_places u) (Sleep 0 0) ≡ false
-unfolding two_places
+two_other : (u : ℕ) → nat_eq u 1 ≡ false → nat_eq u 2 ≡ false → opens_at (two_positions u) (Sleep 0 0) ≡ false
+unfolding two_positions
 two_other u e d = rw (e, d) (first_opens_none 1 (nat_le 1 u && nat_le u 2))
 
-two_none : (u : ℕ) → opens_at (two_places u) (Sleep 0 0) ≡ false
+two_none : (u : ℕ) → opens_at (two_positions u) (Sleep 0 0) ≡ false
 two_none u =
     ⊎_elim
-    (λ e. subst (λ v. opens_at (two_places v) (Sleep 0 0) ≡ false) {x = 1} {y = u} (sym e) two_one)
+    (λ e. subst (λ v. opens_at (two_positions v) (Sleep 0 0) ≡ false) {x = 1} {y = u} (sym e) two_one)
     (λ ne. ⊎_elim
-    (λ e. subst (λ v. opens_at (two_places v) (Sleep 0 0) ≡ false) {x = 2} {y = u} (sym e) two_two)
+    (λ e. subst (λ v. opens_at (two_positions v) (Sleep 0 0) ≡ false) {x = 2} {y = u} (sym e) two_two)
     (λ other. two_other u (ne_eqb u 1 ne) (ne_eqb u 2 other))
     (same_or_not u 2))
     (same_or_not u 1)
 
 no_wake : (b : ℕ) → Refines (with_step no_exchange (λ t. 1) 2 1) (upper (λ t. 1) 2 1) b → ⊥
-unfolding two_places
+unfolding two_positions
 no_wake b h = ⊎_elim above (λ f. true≢false (sym f.1.2 ∙ two_none f.0)) (a.1.states.waits 2 refl)
   where
     a : (above : List Turn) × Follows (with_step no_exchange (λ t. 1) 2 1) (upper (λ t. 1) 2 1) b (reach (with_step no_exchange (λ t. 1) 2 1) two) (reach (upper (λ t. 1) 2 1) above)

@@ -1,14 +1,13 @@
 -- A reader that spins keeps no pace.
 use Rattle.std.proofs.Common.{◌≡◌, ℕ, zero, suc, ◌+◌, ◌*◌, ◌<◌, ◌≤◌, List, [], ◌∷◌, Bool, true, false, ◌⊎◌, ◌∙◌, sym, ap, subst, refl, inl, inr, ⊎_elim, nat_le, ◌&&◌, if◌then◌else◌, arith, mul-le-mul_left}
 use Rattle.runs.specs.declared.turn.Turn.{Turn}
-use Rattle.runs.specs.System.{System, Reached, one_more, moved, tried, tries, run, start, reach}
+use Rattle.runs.specs.System.{KeptBy, System, Reached, one_more, moved, put, tried, tries, run, start, reach}
 use Rattle.runs.specs.Refines.{Refines}
-use Rattle.runs.specs.System.{KeptBy}
-use Rattle.runs.proofs.Simulated.{one_more-same, one_more-other}
-use Rattle.once_example.specs.Upper.{Cell, Empty, Running, Done, Task, Reads, Inside, Tells, State, put, move, inits, upper}
+use Rattle.runs.proofs.Putting.{same_or_not, put-same, put-other}
+use Rattle.once_example.specs.Upper.{Cell, Empty, Running, Done, Task, Reads, Inside, Tells, State, move, inits, upper}
 use Rattle.once_example.specs.Lower.{State as Below, Evaluating, Look, goes}
 use Rattle.once_example.specs.Wrong.{spins, with_step}
-use Rattle.once_example.proofs.Once.{same_or_not, put-same, put-other, busy}
+use Rattle.once_example.proofs.Once.{busy}
 use Rattle.once_example.proofs.Above.{Sound, kept, in_range, task_busy, sound}
 use Rattle.once_example.proofs.Refuted.{between}
 
@@ -19,14 +18,14 @@ abbrev up : System (ℕ × ℕ) (Unit {0}) State
 up = upper (λ t. 1) 2 1
 
 record Spin (m : ℕ) (r : Reached Below) : Type 0 where
-  at : r.state.places 2 ≡ Look 1
+  at : r.state.positions 2 ≡ Look 1
   field : r.state.field ≡ Evaluating
   made : r.moves 2 ≡ m
 
 spin_one : (m : ℕ) (r : Reached Below) → Spin m r → Spin (suc m) (tried low 2 r)
 spin_one m r h =
-    let next : spins (λ t. 1) r.state 2 (r.state.places 2) r.state.field ≡ goes r.state 2 (Look 1) = rw (h.at, h.field) refl in
-    subst (λ n. Spin (suc m) (moved r 2 0 n)) (sym next) (record { at = put-same 2 (Look 1) r.state.places; field = h.field; made = one_more-same 2 r.moves ∙ ap (λ k. suc k) h.made })
+    let next : spins (λ t. 1) r.state 2 (r.state.positions 2) r.state.field ≡ goes r.state 2 (Look 1) = rw (h.at, h.field) refl in
+    subst (λ n. Spin (suc m) (moved r 2 0 n)) (sym next) (record { at = put-same 2 (Look 1) r.state.positions; field = h.field; made = put-same 2 (suc (r.moves 2)) r.moves ∙ ap (λ k. suc k) h.made })
 
 spin_many : (k m : ℕ) (r : Reached Below) → Spin m r → Spin (k + m) (tries low 2 k r)
 spin_many zero m r h = let e : 0 + m ≡ m = omega arith in rw e h
@@ -48,8 +47,8 @@ few_goes r t i task y h less one which tasks safe = record { few = few; all = al
   where
     few : (u : ℕ) → one_more t r.moves u + left (y.tasks u) ≤ 3
     few u = ⊎_elim
-        (λ e. subst (λ v. one_more t r.moves v + left (y.tasks v) ≤ 3) {x = t} {y = u} (sym e) (let a : y.tasks t ≡ task = ap (λ f. f t) tasks ∙ put-same t task r.state.tasks in rw (one_more-same t r.moves, a) (omega (arith, less, h.few t))))
-        (λ ne. let a : y.tasks u ≡ r.state.tasks u = ap (λ f. f u) tasks ∙ put-other t task r.state.tasks u ne in rw (one_more-other t r.moves u ne, a) (h.few u))
+        (λ e. subst (λ v. one_more t r.moves v + left (y.tasks v) ≤ 3) {x = t} {y = u} (sym e) (let a : y.tasks t ≡ task = ap (λ f. f t) tasks ∙ put-same t task r.state.tasks in rw (put-same t (suc (r.moves t)) r.moves, a) (omega (arith, less, h.few t))))
+        (λ ne. let a : y.tasks u ≡ r.state.tasks u = ap (λ f. f u) tasks ∙ put-other t task r.state.tasks u ne in rw (put-other t (suc (r.moves t)) r.moves u ne, a) (h.few u))
         (same_or_not u t)
 
     all : (t ≡ 1) ⊎ (t ≡ 2) → r.inits + i ≤ one_more t r.moves 1 + one_more t r.moves 2

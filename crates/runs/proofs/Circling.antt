@@ -2,12 +2,11 @@
 use Rattle.std.proofs.Common.{◌≡◌, ℕ, ◌+◌, ◌-◌, ◌*◌, ◌/◌, ◌%◌, ◌<◌, ◌≤◌, ◌⊎◌, sym, subst, arith, ap, ◌∙◌, ⊎_elim, inl, inr}
 use Rattle.std.proofs.lemmas.Bool.{cases_lt, cases_eq}
 use Rattle.std.proofs.lemmas.Nat.{mod-mul-add, div-add-mod', mod_below}
-use Rattle.runs.specs.declared.ability.Ability.{Ability}
-use Rattle.runs.specs.declared.ability.Ability.TheVariants
-use Rattle.runs.specs.System.{Next, Goes, Waits, Ended, Stuck, System}
-use Rattle.runs.specs.Planned.{Moves, Rests, in_circle, ComesNext}
-use Rattle.runs.specs.Trying.{able, AreOthersEnded}
-use Rattle.runs.specs.Ends.{NoneMoves}
+use Rattle.runs.specs.declared.next_step.NextStep.{NextStep}
+use Rattle.runs.specs.declared.next_step.NextStep.TheVariants
+use Rattle.runs.specs.System.{AbsentHaveEnded, Next, Goes, Waits, Ended, Stuck, System}
+use Rattle.runs.specs.Planned.{Moves, NoneMoves, Rests, in_circle, ComesNext}
+use Rattle.runs.specs.Trying.{able}
 use Rattle.runs.proofs.Determined.{moves_rests}
 
 -- a remainder that goes on by k, and one that comes round
@@ -43,11 +42,17 @@ stands n t u low high =
     (d, omega arith, omega arith, found))
     (cases_lt (t % n) u)
 
-rests_told : {S : Type 0} (n : Next S) (a : Ability) → a ≡ able n → (a ≡ TheVariants.Waits) ⊎ (a ≡ TheVariants.Ended) → Rests n
+rests_told : {S : Type 0} (n : Next S) (a : NextStep) → a ≡ able n → (a ≡ TheVariants.Waits) ⊎ (a ≡ TheVariants.Ended) → Rests n
 rests_told (Goes x) a is e = absurd (⊎_elim (λ f. cc) (λ f. cc) e)
 rests_told Waits a is e = tt
 rests_told Ended a is e = tt
 rests_told Stuck a is e = absurd (⊎_elim (λ f. cc) (λ f. cc) e)
+
+busy_told : {S : Type 0} (n : Next S) (a : NextStep) → a ≡ able n → (a ≡ TheVariants.Moves) ⊎ (a ≡ TheVariants.Stuck) → Rests n → ⊥
+busy_told (Goes x) a is e r = r
+busy_told Waits a is e r = absurd (⊎_elim (λ f. cc) (λ f. cc) e)
+busy_told Ended a is e r = absurd (⊎_elim (λ f. cc) (λ f. cc) e)
+busy_told Stuck a is e r = r
 
 -- the first k in the circle after t rest, and the next one looked at is the thread `before + 1`
 pub record Passed {Event Place S : Type 0} (s : System Event Place S) (x : S) (n t k before : ℕ) : Type 0 where
@@ -69,7 +74,7 @@ module _ {Event Place S : Type 0} (s : System Event Place S) (x : S) (n t : ℕ)
       (λ ne. h.rest e low (omega arith))
       (cases_eq e (k + 1))
 
-  pub passed_on : (k before : ℕ) (a : Ability) → Passed s x n t k before → before + 1 < n → a ≡ able (s.next x (before + 1)) → (a ≡ TheVariants.Waits) ⊎ (a ≡ TheVariants.Ended) → Passed s x n t (k + 1) (before + 1)
+  pub passed_on : (k before : ℕ) (a : NextStep) → Passed s x n t k before → before + 1 < n → a ≡ able (s.next x (before + 1)) → (a ≡ TheVariants.Waits) ⊎ (a ≡ TheVariants.Ended) → Passed s x n t (k + 1) (before + 1)
   passed_on k before a h lt told e = record {
     at =
         let at = h.at in
@@ -79,7 +84,7 @@ module _ {Event Place S : Type 0} (s : System Event Place S) (x : S) (n t : ℕ)
     rest = rest_more k before h (rests_told (s.next x (before + 1)) a told e);
   }
 
-  pub passed_round : (k before : ℕ) (a : Ability) → Passed s x n t k before → before + 1 ≡ n → a ≡ able (s.next x (before + 1)) → (a ≡ TheVariants.Waits) ⊎ (a ≡ TheVariants.Ended) → Passed s x n t (k + 1) 0
+  pub passed_round : (k before : ℕ) (a : NextStep) → Passed s x n t k before → before + 1 ≡ n → a ≡ able (s.next x (before + 1)) → (a ≡ TheVariants.Waits) ⊎ (a ≡ TheVariants.Ended) → Passed s x n t (k + 1) 0
   passed_round k before a h all told e = record {
     at =
         let at = h.at in
@@ -89,13 +94,15 @@ module _ {Event Place S : Type 0} (s : System Event Place S) (x : S) (n t : ℕ)
     rest = rest_more k before h (rests_told (s.next x (before + 1)) a told e);
   }
 
-  pub comes : (k before : ℕ) → n ≡ s.threads x → k < n → Passed s x n t k before → ComesNext s x t (before + 1)
-  comes k before is lt h =
+  pub comes : (k before : ℕ) (a : NextStep) → n ≡ s.threads x → k < n → Passed s x n t k before → a ≡ able (s.next x (before + 1)) → (a ≡ TheVariants.Moves) ⊎ (a ≡ TheVariants.Stuck) → ComesNext s x t (before + 1)
+  comes k before a is lt h told e =
+      let there : (d : ℕ) × (1 ≤ d) × (d ≤ s.threads x) × (before + 1 ≡ in_circle (s.threads x) t d) × ((e : ℕ) → 1 ≤ e → e < d → Rests (s.next x (in_circle (s.threads x) t e))) =
       subst (λ m. (d : ℕ) × (1 ≤ d) × (d ≤ m) × (before + 1 ≡ in_circle m t d) × ((e : ℕ) → 1 ≤ e → e < d → Rests (s.next x (in_circle m t e)))) is
-      (k + 1, omega arith, omega arith, looked_at k before h, h.rest)
+      (k + 1, omega arith, omega arith, looked_at k before h, h.rest) in
+      (there.0, there.1, there.2, there.3, there.4, busy_told (s.next x (before + 1)) a told e)
 
   -- where all in the circle rest, none moves
-  pub all_rest : (k before : ℕ) → n ≡ s.threads x → n ≤ k → AreOthersEnded s x → Passed s x n t k before → NoneMoves s x
+  pub all_rest : (k before : ℕ) → n ≡ s.threads x → n ≤ k → AbsentHaveEnded s x → Passed s x n t k before → NoneMoves s x
   all_rest k before is le others h u moves =
       let other : (u ≡ 0) ⊎ (s.threads x < u) → ⊥ = λ o. let ended : s.next x u ≡ Ended = others u o in subst Moves ended moves in
       ⊎_elim
@@ -109,7 +116,7 @@ module _ {Event Place S : Type 0} (s : System Event Place S) (x : S) (n t : ℕ)
       (cases_lt u 1)
 
   -- where there is no thread, none moves
-  pub none_there : n ≡ s.threads x → n ≡ 0 → AreOthersEnded s x → NoneMoves s x
+  pub none_there : n ≡ s.threads x → n ≡ 0 → AbsentHaveEnded s x → NoneMoves s x
   none_there is zero_threads others u moves =
       let o : (u ≡ 0) ⊎ (s.threads x < u) = ⊎_elim (λ none. inl (omega arith)) (λ pos. inr (omega arith)) (cases_lt u 1) in
       let ended : s.next x u ≡ Ended = others u o in

@@ -1,11 +1,11 @@
 -- Where each of finitely many threads waits for one of them, some wait in a cycle.
 use Rattle.std.proofs.Common.{◌≡◌, ◌≢◌, ℕ, zero, suc, ◌+◌, ◌<◌, ◌≤◌, List, [], ◌∷◌, Bool, true, false, ◌||◌, ◌⊎◌, sym, subst, refl, inl, inr, ⊎_elim, nat_eq, length, arith, eqb-true, ne_eqb, true≢false}
-use Rattle.std.proofs.lemmas.Bool.{eqb-false}
+use Rattle.std.proofs.lemmas.Bool.{cases_lt, eqb-false}
 use Rattle.std.specs.List.{IsDistinct, AllByRecursion, list_any}
 use Rattle.std.proofs.lemmas.Map.Steps.{length-le_from_distinct_below}
 use Rattle.runs.specs.declared.turn.Turn.{Turn}
-use Rattle.runs.specs.System.{Ended, System, reach}
-use Rattle.runs.specs.Waiting.{WaitsFor, Chain, Cycle, HasCycles, UnfinishedAreThere, WaitsForUnfinished}
+use Rattle.runs.specs.System.{AbsentHaveEnded, Ended, System, reach}
+use Rattle.runs.specs.Waiting.{WaitsFor, Chain, IsCycle, HasCycles, WaitsForUnfinished}
 
 flip : (a b : ℕ) → nat_eq a b ≡ false → nat_eq b a ≡ false
 flip a b e = ne_eqb b a (λ same. eqb-false a b e (sym same))
@@ -34,10 +34,6 @@ apart_more t us (v ∷ vs) h k = ((flip t v h.0, k.0), apart_more t us vs h.1 k.
 apart_one : (t : ℕ) (vs : List ℕ) → Lacks vs t → AllByRecursion (Lacks (t ∷ [])) vs
 apart_one t [] h = tt
 apart_one t (v ∷ vs) h = ((flip t v h.0, tt), apart_one t vs h.1)
-
-abbrev pub IsCycle : (ℕ → ℕ → Type 0) → List ℕ → Type 0
-IsCycle R [] = ⊥
-IsCycle R (t ∷ ts) = IsDistinct nat_eq (t ∷ ts) × Chain R t ts t
 
 -- a way from t back to one that was seen
 record Way (R : ℕ → ℕ → Type 0) (t : ℕ) (vs : List ℕ) : Type 0 where
@@ -108,13 +104,9 @@ module _ (R : ℕ → ℕ → Type 0) (Lives : ℕ → Type 0) (n : ℕ) (below 
   unfolding IsDistinct
   cycle_from t live = ⊎_elim (λ c. c) (λ w. absurd (none_seen t w)) (walk n t [] live tt tt (one_below t live) (omega arith))
 
-as_cycle : {Event Place S : Type 0} (s : System Event Place S) (x : S) (ts : List ℕ) → IsCycle (WaitsFor s x) ts → Cycle s x ts
-as_cycle s x [] h = h
-as_cycle s x (t ∷ ts) h = h
-
 -- the law of cycles, from what each waiting thread waits for
-pub law_of_cycles : {Event Place S : Type 0} (s : System Event Place S) → ((turns : List Turn) → UnfinishedAreThere s (reach s turns).state) → ((turns : List Turn) → WaitsForUnfinished s (reach s turns).state) → HasCycles s
-law_of_cycles s there waits turns all t ne =
+pub law_of_cycles : {Event Place S : Type 0} (s : System Event Place S) → ((turns : List Turn) → AbsentHaveEnded s (reach s turns).state) → ((turns : List Turn) → WaitsForUnfinished s (reach s turns).state) → HasCycles s
+law_of_cycles s absent waits turns all t ne =
     let x = (reach s turns).state in
-    let c = cycle_from (WaitsFor s x) (λ t. s.next x t ≢ Ended) (s.threads x + 1) (λ t ne. let le : t ≤ s.threads x = there turns t ne in omega arith) (λ t ne. waits turns all t ne) t ne in
-    (c.0, as_cycle s x c.0 c.1)
+    let there : (t : ℕ) → s.next x t ≢ Ended → t < s.threads x + 1 = λ t ne. ⊎_elim (λ past. absurd (ne (absent turns t (inr past)))) (λ le. omega arith) (cases_lt (s.threads x) t) in
+    cycle_from (WaitsFor s x) (λ t. s.next x t ≢ Ended) (s.threads x + 1) there (λ t ne. waits turns all t ne) t ne

@@ -1,11 +1,9 @@
--- A plan and a budget allow at most one schedule.
-use Rattle.std.proofs.Common.{◌≡◌, ℕ, zero, suc, ◌+◌, ◌-◌, ◌<◌, ◌≤◌, min, List, [], ◌∷◌, ◌⊎◌, ⊎_elim, inl, inr, refl, sym, subst, arith, ap, ◌∙◌}
+-- A plan and a budget allow at most one schedule. Where they lead to a bad turn, its thread isn't there.
+use Rattle.std.proofs.Common.{◌≡◌, ℕ, zero, suc, ◌+◌, ◌-◌, ◌<◌, List, [], ◌∷◌, ◌++◌, ◌⊎◌, ⊎_elim, inl, inr, refl, sym, subst, arith, ap, ◌∙◌, Option, None, Some, slice_get}
 use Rattle.std.proofs.lemmas.Bool.{cases_lt}
 use Rattle.runs.specs.declared.turn.Turn.{Turn}
-use Rattle.runs.specs.System.{Next, Goes, Waits, Ended, Stuck, System, Reached, tries, start}
-use Rattle.runs.specs.Planned.{Moves, IsStuck, Rests, IsOver, ComesNext, in_circle, IsRoundRobin, IsGiven, Begins, Plan, RoundRobin, Given, Planned}
-use Rattle.runs.proofs.Planning.{rests}
-use Rattle.runs.proofs.Replaying.{tries-add}
+use Rattle.runs.specs.System.{Next, Goes, Waits, Ended, Stuck, System, Reached, IsAbsent, tries, run, start, reach}
+use Rattle.runs.specs.Planned.{Moves, IsStuck, Rests, IsOver, IsHalted, IsNext, IsTaken, ComesNext, in_circle, cut, kept, Ahead, GivenTurn, Round, Allows, Over, Absent, Halted, Then, Plan, Given, Planned, IsBadTurn, at_first, given_from}
 
 pub moves_rests : {S : Type 0} (n : Next S) → Moves n → Rests n → ⊥
 moves_rests (Goes x) m r = r
@@ -19,12 +17,6 @@ stuck_rests Waits m r = m
 stuck_rests Ended m r = m
 stuck_rests Stuck m r = r
 
-pub moves_stuck : {S : Type 0} (n : Next S) → Moves n → IsStuck n → ⊥
-moves_stuck (Goes x) m r = r
-moves_stuck Waits m r = m
-moves_stuck Ended m r = m
-moves_stuck Stuck m r = m
-
 same_turn : (a b : Turn) → a.thread ≡ b.thread → a.count ≡ b.count → a ≡ b
 same_turn a b e f =
     let first : a ≡ record { thread = b.thread; count = a.count } = ap (λ (t : ℕ). let turn : Turn = record { thread = t; count = a.count } in turn) e in
@@ -35,125 +27,131 @@ trichotomy : (m n : ℕ) → (m < n) ⊎ ((n < m) ⊎ (m ≡ n))
 trichotomy m n = ⊎_elim inl (λ le. ⊎_elim (λ lt. inr (inl lt)) (λ ge. inr (inr (omega arith))) (cases_lt n m)) (cases_lt m n)
 
 module _ {Event Place S : Type 0} (s : System Event Place S) where
-  Between : S → ℕ → ℕ → Type 0
-  Between x t d = (e : ℕ) → 1 ≤ e → e < d → Rests (s.next x (in_circle (s.threads x) t e))
-
-  -- one thread alone comes next of those that don't rest
-  next_once : (x : S) (t u v : ℕ) → ComesNext s x t u → ComesNext s x t v → (Rests (s.next x u) → ⊥) → (Rests (s.next x v) → ⊥) → u ≡ v
-  next_once x t u v a b busy_u busy_v = ⊎_elim
-      (λ lt. absurd (busy_u (subst (λ w. Rests (s.next x w)) (sym a.3) (b.4 a.0 a.1 lt))))
+  -- one thread alone comes next
+  comes_once : (x : S) (t u v : ℕ) → ComesNext s x t u → ComesNext s x t v → u ≡ v
+  comes_once x t u v a b = ⊎_elim
+      (λ lt. absurd (a.5 (subst (λ w. Rests (s.next x w)) (sym a.3) (b.4 a.0 a.1 lt))))
       (λ other. ⊎_elim
-      (λ lt. absurd (busy_v (subst (λ w. Rests (s.next x w)) (sym b.3) (a.4 b.0 b.1 lt))))
+      (λ lt. absurd (b.5 (subst (λ w. Rests (s.next x w)) (sym b.3) (a.4 b.0 b.1 lt))))
       (λ same. a.3 ∙ (ap (in_circle (s.threads x) t) same ∙ sym b.3))
       other)
       (trichotomy a.0 b.0)
 
-  -- a turn that makes a move begins with one
-  begins_with_move : (t c : ℕ) (r : Reached S) → 0 < c → (tries s t c r).moves t ≡ r.moves t + c → Moves (s.next r.state t)
-  begins_with_move t c r pos whole = go (s.next r.state t) refl
+  -- one turn alone is next, with one plan behind it
+  next_once : (x : S) (ahead : Ahead) (a b : Turn) (p q : Ahead) → IsNext s x ahead a p → IsNext s x ahead b q → (a ≡ b) × (p ≡ q)
+  next_once x (GivenTurn index turn more) a b p q h k = (h.0 ∙ sym k.0, h.1 ∙ sym k.1)
+  next_once x (Round quantum last) a b p q h k =
+      let thread = comes_once x last a.thread b.thread h.0 k.0 in
+      (same_turn a b thread (h.1 ∙ sym k.1), h.2 ∙ (ap (Round quantum) thread ∙ sym k.2))
+
+  -- what two derivations that take the same turn have in common
+  record Same (left : ℕ) (r : Reached S) (a b : Turn) (p q : Ahead) (m n : ℕ) : Type 0 where
+    turn : a ≡ b
+    rest : p ≡ q
+    moves : m ≡ n
+
+  taken_once : (left : ℕ) (ahead : Ahead) (r : Reached S) (a b : Turn) (p q : Ahead) (m n : ℕ) → IsNext s r.state ahead a p → IsNext s r.state ahead b q → IsTaken s left r a m → IsTaken s left r b n → Same left r a b p q m n
+  taken_once left ahead r a b p q m n h k x y =
+      let e = next_once r.state ahead a b p q h k in
+      record { turn = e.0; rest = e.1; moves = sym x.moves ∙ (ap (cut s left r) e.0 ∙ y.moves) }
+
+  -- a halted turn doesn't go on
+  halts_or_goes : (left : ℕ) (r : Reached S) (a b : Turn) (p q : Ahead) (m n : ℕ) → Same left r a b p q m n → IsHalted s a m (tries s a.thread m r).state → (IsHalted s b n (tries s b.thread n r).state → ⊥) → ⊥
+  halts_or_goes left r a b p q m n e halted free =
+      free (subst (λ k. IsHalted s b k (tries s b.thread k r).state) e.moves (subst (λ (t : Turn). IsHalted s t m (tries s t.thread m r).state) e.turn halted))
+
+  same_kept : (left : ℕ) (r : Reached S) (a b : Turn) (p q : Ahead) (m n : ℕ) → Same left r a b p q m n → kept a.thread m ≡ kept b.thread n
+  same_kept left r a b p q m n e = ap (λ (t : Turn). kept t.thread m) e.turn ∙ ap (kept b.thread) e.moves
+
+  -- a given turn whose thread isn't there isn't taken
+  absent_taken : (left index : ℕ) (r : Reached S) (turn b : Turn) (more : List Turn) (q : Ahead) (n : ℕ) → IsAbsent s r.state turn.thread → IsNext s r.state (GivenTurn index turn more) b q → IsTaken s left r b n → ⊥
+  absent_taken left index r turn b more q n absent next taken =
+      taken.there (subst (λ (t : Turn). IsAbsent s r.state t.thread) (sym next.0) absent)
+
+  -- the same schedule, and the same bad turn
+  AreSame : List Turn → List Turn → Option ℕ → Option ℕ → Type 0
+  AreSame a b x y = (a ≡ b) × (x ≡ y)
+
+  further : (left : ℕ) (r : Reached S) (a b : Turn) (p q : Ahead) (m n : ℕ) (xs ys : List Turn) (x y : Option ℕ) → Same left r a b p q m n → ((ys : List Turn) (y : Option ℕ) → Allows s (left - m) p (tries s a.thread m r) ys y → AreSame xs ys x y) → Allows s (left - n) q (tries s b.thread n r) ys y → AreSame (kept a.thread m ++ xs) (kept b.thread n ++ ys) x y
+  unfolding AreSame
+  further left r a b p q m n xs ys x y e once k =
+      let at_turn : Allows s (left - n) q (tries s a.thread n r) ys y = subst (λ (t : Turn). Allows s (left - n) q (tries s t.thread n r) ys y) (sym e.turn) k in
+      let at_moves : Allows s (left - m) q (tries s a.thread m r) ys y = subst (λ j. Allows s (left - j) q (tries s a.thread j r) ys y) (sym e.moves) at_turn in
+      let same = once ys y (subst (λ z. Allows s (left - m) z (tries s a.thread m r) ys y) (sym e.rest) at_moves) in
+      (ap (λ zs. zs ++ xs) (same_kept left r a b p q m n e) ∙ ap (λ zs. kept b.thread n ++ zs) same.0, same.1)
+
+  pub allowed_once : (left : ℕ) (ahead : Ahead) (r : Reached S) (a : List Turn) (x : Option ℕ) (b : List Turn) (y : Option ℕ) → Allows s left ahead r a x → Allows s left ahead r b y → (a ≡ b) × (x ≡ y)
+  unfolding AreSame
+  allowed_once left ahead r a x b y (Over o) (Over p) = (refl, refl)
+  allowed_once left ahead r a x b y (Over o) (Absent index turn more going absent) = absurd (going o)
+  allowed_once left ahead r a x b y (Over o) (Halted turn rest n next taken halted) = absurd (taken.going o)
+  allowed_once left ahead r a x b y (Over o) (Then turn rest n more bad next taken free k) = absurd (taken.going o)
+  allowed_once left ahead r a x b y (Absent index turn more going absent) k = absent_once left index r turn more b y going absent k
     where
-      idle : (Moves (s.next r.state t) → ⊥) → ⊥
-      idle no_move = let e : (tries s t c r).moves t ≡ r.moves t = ap (λ (x : Reached S). x.moves t) (rests s t c r no_move) in omega arith
-
-      go : (next : Next S) → s.next r.state t ≡ next → Moves (s.next r.state t)
-      go (Goes x) is = rw is tt
-      go Waits is = absurd (idle (λ m. subst Moves is m))
-      go Ended is = absurd (idle (λ m. subst Moves is m))
-      go Stuck is = absurd (idle (λ m. subst Moves is m))
-
-  -- no turn is shorter than one that is whole, if its thread can't go on behind it
-  none_longer : (t c d : ℕ) (r : Reached S) → c < d → (tries s t c r).moves t ≡ r.moves t + c → (tries s t d r).moves t ≡ r.moves t + d → (Moves (s.next (tries s t c r).state t) → ⊥) → ⊥
-  none_longer t c d r lt short long stops =
-      let sum : c + (d - c) ≡ d = omega arith in
-      let same : tries s t d r ≡ tries s t c r = ap (λ n. tries s t n r) (sym sum) ∙ (tries-add s t c (d - c) r ∙ rests s t (d - c) (tries s t c r) stops) in
-      let e : (tries s t d r).moves t ≡ (tries s t c r).moves t = ap (λ (x : Reached S). x.moves t) same in
-      omega arith
-
-  Ends : ℕ → ℕ → ℕ → Reached S → ℕ → Type 0
-  Ends quantum left t r c = (c ≡ quantum) ⊎ ((c < quantum) × ((c ≡ left) ⊎ (Moves (s.next (tries s t c r).state t) → ⊥)))
-
-  not_less : (quantum left t c d : ℕ) (r : Reached S) → Ends quantum left t r c → Ends quantum left t r d → d ≤ left → (tries s t c r).moves t ≡ r.moves t + c → (tries s t d r).moves t ≡ r.moves t + d → c < d → ⊥
-  unfolding Ends
-  not_less quantum left t c d r at_c at_d fits short long lt =
-      let within : d ≤ quantum = ⊎_elim (λ e. omega arith) (λ p. omega (arith, p.0)) at_d in
-      ⊎_elim
-      (λ e. absurd (omega arith))
-      (λ p. ⊎_elim (λ e. absurd (omega arith)) (λ stops. none_longer t c d r lt short long stops) p.1)
-      at_c
-
-  over_without_move : (left t : ℕ) (r : Reached S) → IsOver s left r.state → 0 < left → Moves (s.next r.state t) → ⊥
-  over_without_move left t r over pos moves = ⊎_elim (λ e. absurd (omega arith)) (λ none. none t moves) over
-
-  no_turn : (quantum left last : ℕ) (r : Reached S) (turn : Turn) (rest : List Turn) → IsRoundRobin s quantum left last r [] → IsRoundRobin s quantum left last r (turn ∷ rest) → ⊥
-  no_turn quantum left last r turn rest over on =
-      let moves = begins_with_move turn.thread turn.count r on.1 on.3 in
-      ⊎_elim
-      (λ ended. over_without_move left turn.thread r ended (omega (arith, on.1, on.2)) moves)
-      (λ stuck. moves_stuck (s.next r.state turn.thread) moves
-      (subst (λ u. IsStuck (s.next r.state u)) (next_once r.state last stuck.0 turn.thread stuck.1 on.0 (stuck_rests (s.next r.state stuck.0) stuck.2) (moves_rests (s.next r.state turn.thread) moves)) stuck.2))
-      over
-
-  round_robin_once : (quantum left last : ℕ) (r : Reached S) (a b : List Turn) → IsRoundRobin s quantum left last r a → IsRoundRobin s quantum left last r b → a ≡ b
-  unfolding Ends
-  round_robin_once quantum left last r [] [] h k = refl
-  round_robin_once quantum left last r [] (turn ∷ rest) h k = absurd (no_turn quantum left last r turn rest h k)
-  round_robin_once quantum left last r (turn ∷ rest) [] h k = absurd (no_turn quantum left last r turn rest k h)
-  round_robin_once quantum left last r (x ∷ xs) (y ∷ ys) h k =
-      let moves_x = begins_with_move x.thread x.count r h.1 h.3 in
-      let moves_y = begins_with_move y.thread y.count r k.1 k.3 in
-      let thread : y.thread ≡ x.thread = next_once r.state last y.thread x.thread k.0 h.0 (moves_rests (s.next r.state y.thread) moves_y) (moves_rests (s.next r.state x.thread) moves_x) in
-      let whole_y : (tries s x.thread y.count r).moves x.thread ≡ r.moves x.thread + y.count = subst (λ t. (tries s t y.count r).moves t ≡ r.moves t + y.count) thread k.3 in
-      let ends_y : Ends quantum left x.thread r y.count = subst (λ t. Ends quantum left t r y.count) thread k.4 in
-      let count : y.count ≡ x.count = ⊎_elim
-      (λ lt. absurd (not_less quantum left x.thread x.count y.count r h.4 ends_y k.2 h.3 whole_y lt))
-      (λ other. ⊎_elim (λ lt. absurd (not_less quantum left x.thread y.count x.count r ends_y h.4 h.2 whole_y h.3 lt)) (λ e. sym e) other)
-      (trichotomy x.count y.count) in
-      let turn : y ≡ x = same_turn y x thread count in
-      let rest_y : IsRoundRobin s quantum (left - x.count) x.thread (tries s x.thread x.count r) ys = subst (λ (z : Turn). IsRoundRobin s quantum (left - z.count) z.thread (tries s z.thread z.count r) ys) turn k.5 in
-      let rest : xs ≡ ys = round_robin_once quantum (left - x.count) x.thread (tries s x.thread x.count r) xs ys h.5 rest_y in
-      ap (λ zs. x ∷ zs) rest ∙ ap (λ z. z ∷ ys) (sym turn)
-
-begins_once : (t n : ℕ) (a b : List Turn) (Rest : List Turn → Type 0) → ((x y : List Turn) → Rest x → Rest y → x ≡ y) → Begins t n a Rest → Begins t n b Rest → a ≡ b
-begins_once t zero a b Rest once h k = once a b h k
-begins_once t (suc n) [] b Rest once h k = absurd h
-begins_once t (suc n) (x ∷ xs) [] Rest once h k = absurd k
-begins_once t (suc n) (x ∷ xs) (y ∷ ys) Rest once h k = ap (λ z. z ∷ xs) (h.0 ∙ sym k.0) ∙ ap (λ zs. y ∷ zs) (once xs ys h.1 k.1)
-
--- a given turn isn't reached and reached
-not_both : {Event Place S : Type 0} (s : System Event Place S) (left : ℕ) (x : S) (t : ℕ) → IsOver s left x ⊎ (s.threads x < t) ⊎ (t ≡ 0) → (IsOver s left x → ⊥) → 1 ≤ t → t ≤ s.threads x → ⊥
-not_both s left x t over going there within =
-    ⊎_elim going (λ other. ⊎_elim (λ past. absurd (omega arith)) (λ none. absurd (omega arith)) other) over
-
--- behind a given turn: the run halts there, or goes on
-BehindGiven : Type 0 → (List Turn → Type 0) → List Turn → Type 0
-BehindGiven halts Goes_on rest = (halts × (rest ≡ [])) ⊎ ((halts → ⊥) × Goes_on rest)
-
-behind_once : (halts : Type 0) (Goes_on : List Turn → Type 0) → ((x y : List Turn) → Goes_on x → Goes_on y → x ≡ y) → (x y : List Turn) → BehindGiven halts Goes_on x → BehindGiven halts Goes_on y → x ≡ y
-unfolding BehindGiven
-behind_once halts Goes_on once x y (inl p) (inl q) = p.1 ∙ sym q.1
-behind_once halts Goes_on once x y (inl p) (inr q) = absurd (q.0 p.0)
-behind_once halts Goes_on once x y (inr p) (inl q) = absurd (p.0 q.0)
-behind_once halts Goes_on once x y (inr p) (inr q) = once x y p.1 q.1
-
-given_once : {Event Place S : Type 0} (s : System Event Place S) (left : ℕ) (r : Reached S) (given a b : List Turn) → IsGiven s left r given a → IsGiven s left r given b → a ≡ b
-unfolding BehindGiven
-given_once s left r [] a b h k = round_robin_once s 50 left 0 r a b h k
-given_once s left r (turn ∷ more) a b h k = elim h [
-  | inl over ↦ elim k [
-    | inl other ↦ over.1 ∙ sym other.1
-    | inr on ↦ absurd (not_both s left r.state turn.thread over.0 on.0 on.1 on.2)
-  ]
-  | inr on ↦ elim k [
-    | inl over ↦ absurd (not_both s left r.state turn.thread over.0 on.0 on.1 on.2)
-    | inr other ↦ begins_once turn.thread _ a b _
-        (behind_once _ _ (λ x y. given_once s
-        (left - min left ((tries s turn.thread turn.count r).moves turn.thread - r.moves turn.thread))
-        (tries s turn.thread (min left ((tries s turn.thread turn.count r).moves turn.thread - r.moves turn.thread)) r)
-        more x y))
-        on.3 other.3
-  ]
-]
+      absent_once : (left index : ℕ) (r : Reached S) (turn : Turn) (more : List Turn) (b : List Turn) (y : Option ℕ) → (IsOver s left r.state → ⊥) → IsAbsent s r.state turn.thread → Allows s left (GivenTurn index turn more) r b y → AreSame [] b (Some index) y
+      absent_once left index r turn more b y going absent (Over o) = absurd (going o)
+      absent_once left index r turn more b y going absent (Absent i t m going' absent') = (refl, refl)
+      absent_once left index r turn more b y going absent (Halted other rest n next taken halted) = absurd (absent_taken left index r turn other more rest n absent next taken)
+      absent_once left index r turn more b y going absent (Then other rest n behind bad next taken free k) = absurd (absent_taken left index r turn other more rest n absent next taken)
+  allowed_once left ahead r a x b y (Halted turn rest n next taken halted) (Over o) = absurd (taken.going o)
+  allowed_once left ahead r a x b y (Halted turn rest n next taken halted) (Absent index given more going absent) = absurd (absent_taken left index r given turn more rest n absent next taken)
+  allowed_once left ahead r a x b y (Halted turn rest n next taken halted) (Halted other rest' m next' taken' halted') =
+      let e = taken_once left ahead r turn other rest rest' n m next next' taken taken' in (same_kept left r turn other rest rest' n m e, refl)
+  allowed_once left ahead r a x b y (Halted turn rest n next taken halted) (Then other rest' m more bad next' taken' free k) =
+      absurd (halts_or_goes left r turn other rest rest' n m (taken_once left ahead r turn other rest rest' n m next next' taken taken') halted free)
+  allowed_once left ahead r a x b y (Then turn rest n more bad next taken free h) (Over o) = absurd (taken.going o)
+  allowed_once left ahead r a x b y (Then turn rest n more bad next taken free h) (Absent index given behind going absent) = absurd (absent_taken left index r given turn behind rest n absent next taken)
+  allowed_once left ahead r a x b y (Then turn rest n more bad next taken free h) (Halted other rest' m next' taken' halted) =
+      absurd (halts_or_goes left r other turn rest' rest m n (taken_once left ahead r other turn rest' rest m n next' next taken' taken) halted free)
+  allowed_once left ahead r a x b y (Then turn rest n more bad next taken free h) (Then other rest' m more' bad' next' taken' free' k) =
+      further left r turn other rest rest' n m more more' bad bad' (taken_once left ahead r turn other rest rest' n m next next' taken taken')
+      (λ ys z j. allowed_once (left - n) rest (tries s turn.thread n r) more bad ys z h j) k
 
 pub planned_once : {Event Place S : Type 0} (s : System Event Place S) (plan : Plan) (budget : ℕ) (a b : List Turn) → Planned s plan budget a → Planned s plan budget b → a ≡ b
-planned_once s (RoundRobin quantum) budget a b h k = round_robin_once s quantum budget 0 (start s) a b h k
-planned_once s (Given turns) budget a b h k = given_once s budget (start s) turns a b h k
+planned_once s plan budget a b h k = (allowed_once s budget (at_first plan) (start s) a h.0 b k.0 h.1 k.1).0
+
+module _ {Event Place S : Type 0} (s : System Event Place S) where
+  -- the given turn with this index is ahead, and its thread isn't there
+  abbrev IsAbsentAhead : Ahead → ℕ → S → Type 0
+  IsAbsentAhead (GivenTurn index turn more) i x =
+      (j : ℕ) × (index + j ≡ i) × (given : Turn) × (slice_get (turn ∷ more) j ≡ Some given) × IsAbsent s x given.thread
+  IsAbsentAhead (Round quantum last) i x = ⊥
+
+  -- the same, where there is a bad turn
+  abbrev IsBadAhead : Ahead → Option ℕ → S → Type 0
+  IsBadAhead ahead None x = Unit {0}
+  IsBadAhead ahead (Some i) x = IsAbsentAhead ahead i x
+
+  behind_given : (index : ℕ) (turn : Turn) (more : List Turn) (i : ℕ) (x : S) → IsAbsentAhead (given_from (suc index) more) i x → IsAbsentAhead (GivenTurn index turn more) i x
+  behind_given index turn [] i x h = absurd h
+  behind_given index turn (given ∷ more) i x h = (suc h.0, omega (arith, h.1), h.2, h.3, h.4)
+
+  behind_next : (x y : S) (ahead : Ahead) (turn : Turn) (rest : Ahead) (bad : Option ℕ) → IsNext s x ahead turn rest → IsBadAhead rest bad y → IsBadAhead ahead bad y
+  behind_next x y ahead turn rest None next h = tt
+  behind_next x y (GivenTurn index given more) turn rest (Some i) next h = behind_given index given more i y (subst (λ a. IsAbsentAhead a i y) next.1 h)
+  behind_next x y (Round quantum last) turn rest (Some i) next h = subst (λ a. IsAbsentAhead a i y) next.2 h
+
+  behind_kept : (t n : ℕ) (more : List Turn) (r : Reached S) → run s (kept t n ++ more) r ≡ run s more (tries s t n r)
+  behind_kept t zero more r = refl
+  behind_kept t (suc n) more r = refl
+
+  -- where a schedule ends, the thread of the bad turn isn't there
+  allowed_bad : (left : ℕ) (ahead : Ahead) (r : Reached S) (schedule : List Turn) (bad : Option ℕ) → Allows s left ahead r schedule bad → IsBadAhead ahead bad (run s schedule r).state
+  allowed_bad left ahead r schedule bad (Over over) = tt
+  allowed_bad left ahead r schedule bad (Absent index turn more going absent) = (0, omega arith, turn, refl, absent)
+  allowed_bad left ahead r schedule bad (Halted turn rest n next taken halted) = tt
+  allowed_bad left ahead r schedule bad (Then turn rest n more bad' next taken free h) =
+      let later = allowed_bad (left - n) rest (tries s turn.thread n r) more bad' h in
+      subst (λ (q : Reached S). IsBadAhead ahead bad' q.state) (sym (behind_kept turn.thread n more r)) (behind_next r.state (run s more (tries s turn.thread n r)).state ahead turn rest bad' next later)
+
+  bad_given : (turns : List Turn) (i : ℕ) (x : S) → IsAbsentAhead (given_from 0 turns) i x → (turn : Turn) × (slice_get turns i ≡ Some turn) × IsAbsent s x turn.thread
+  bad_given [] i x h = absurd h
+  bad_given (turn ∷ more) i x h =
+      let e : h.0 ≡ i = omega (arith, h.1) in
+      (h.2, subst (λ j. slice_get (turn ∷ more) j ≡ Some h.2) e h.3, h.4)
+
+pub bad_turn_absent : {Event Place S : Type 0} (s : System Event Place S) (turns : List Turn) (budget i : ℕ) → IsBadTurn s turns budget i → (schedule : List Turn) → Planned s (Given turns) budget schedule → (turn : Turn) × (slice_get turns i ≡ Some turn) × IsAbsent s (reach s schedule).state turn.thread
+bad_turn_absent s turns budget i bad schedule planned =
+    let same : bad.0 ≡ schedule = (allowed_once s budget (at_first (Given turns)) (start s) bad.0 (Some i) schedule planned.0 bad.1 planned.1).0 in
+    let there = allowed_bad s budget (given_from 0 turns) (start s) bad.0 (Some i) bad.1 in
+    bad_given s turns i (reach s schedule).state (subst (λ ts. IsAbsentAhead s (given_from 0 turns) i (reach s ts).state) same there)

@@ -1,7 +1,7 @@
 -- What the first state has and each step keeps holds of every state that a run comes to.
-use Rattle.std.proofs.Common.{◌≡◌, ℕ, zero, suc, List, [], ◌∷◌, refl}
+use Rattle.std.proofs.Common.{◌≡◌, ℕ, zero, suc, List, [], ◌∷◌, refl, subst}
 use Rattle.runs.specs.declared.turn.Turn.{Turn}
-use Rattle.runs.specs.System.{Next, Goes, Waits, Ended, Stuck, System, Reached, moved, tried, tries, run, reach, start}
+use Rattle.runs.specs.System.{Next, Goes, Waits, Ended, Stuck, System, Reached, KeptBy, moved, tried, tries, run, reach, start}
 
 module _ {Event Place A W : Type 0} (s : System Event Place A) (state : W → A) (kept : (w : W) (t : ℕ) (x : A) → s.next (state w) t ≡ Goes x → (v : W) × (state v ≡ x)) where
   -- a state that has it
@@ -26,3 +26,9 @@ module _ {Event Place A W : Type 0} (s : System Event Place A) (state : W → A)
 pub each_reached : {Event Place A W : Type 0} (s : System Event Place A) (state : W → A) (first : W) → state first ≡ s.first → ((w : W) (t : ℕ) (x : A) → s.next (state w) t ≡ Goes x → (v : W) × (state v ≡ x)) → (turns : List Turn) → (w : W) × (state w ≡ (reach s turns).state)
 unfolding Has
 each_reached s state first is kept turns = after_run s state kept turns (start s) (first, is)
+
+-- the same for a predicate on states
+pub kept_by_runs : {Event Place S : Type 0} (s : System Event Place S) (P : S → Type 0) → ((x : S) (t : ℕ) → P x → KeptBy P (s.next x t)) → P s.first → (turns : List Turn) → P (reach s turns).state
+kept_by_runs {S = S} s P kept first turns =
+    let last = each_reached {W = (x : S) × P x} s (λ w. w.0) (s.first, first) refl (λ w t x goes. ((x, subst (KeptBy P) goes (kept w.0 t w.1)), refl)) turns in
+    subst P last.1 last.0.1

@@ -5,9 +5,9 @@ use Rattle.std.proofs.lemmas.List.Elements.{All-from_recursion, All-head}
 use Rattle.std.proofs.lemmas.Map.Steps.{length-le_from_distinct_below}
 use Rattle.std.specs.List.{IsDistinct, AllByRecursion, list_any}
 use Rattle.runs.specs.System.{Next, Goes, Waits, Ended, Stuck, System}
-use Rattle.runs.specs.Waiting.{DoesWait, WaitsFor, Chain, Cycle, LeastCycle}
+use Rattle.runs.specs.Waiting.{DoesWait, WaitsFor, Chain, IsCycle, IsLeastCycle, Cycle, LeastCycle}
 use Rattle.runs.proofs.Chaining.{leads_on, all_in_circle, chain_once, chain_distinct}
-use Rattle.runs.proofs.Cycling.{Lacks, IsCycle}
+use Rattle.runs.proofs.Cycling.{Lacks}
 use Rattle.runs.proofs.Searching.{Decided, Throughout, all_or_first}
 
 -- a thread waits for one thread at most
@@ -20,18 +20,22 @@ waits_for_once s x t u v a b = ⊎_elim
     other)
     (cases_order u v)
 
-pub least_once : {Event Place S : Type 0} (s : System Event Place S) (x : S) (one other : List ℕ) → LeastCycle s x one → LeastCycle s x other → one ≡ other
+-- a relation that leads from each number to one at most has one least cycle at most
+pub least_of_relation : (R : ℕ → ℕ → Type 0) → ((t u v : ℕ) → R t u → R t v → u ≡ v) → (one other : List ℕ) → IsLeastCycle R one → IsLeastCycle R other → one ≡ other
 unfolding IsDistinct
-least_once s x [] other h k = absurd h
-least_once s x (t ∷ ts) [] h k = absurd k
-least_once s x (t ∷ ts) (u ∷ us) h k =
+least_of_relation R once [] other h k = absurd h
+least_of_relation R once (t ∷ ts) [] h k = absurd k
+least_of_relation R once (t ∷ ts) (u ∷ us) h k =
     let le : t ≤ u = All-head (λ v. t ≤ v) u us (h.1 (u ∷ us) k.0) in
     let ge : u ≤ t = All-head (λ v. u ≤ v) t ts (k.1 (t ∷ ts) h.0) in
     let same : u ≡ t = omega arith in
-    let chain : Chain (WaitsFor s x) t us t = subst (λ v. Chain (WaitsFor s x) v us v) same k.0.1 in
+    let chain : Chain R t us t = subst (λ v. Chain R v us v) same k.0.1 in
     let lacks : Lacks us t = subst (λ v. Lacks us v) same k.0.0.0 in
-    let rest : ts ≡ us = chain_once (WaitsFor s x) (waits_for_once s x) t t ts us h.0.1 chain h.0.0.0 lacks in
+    let rest : ts ≡ us = chain_once R once t t ts us h.0.1 chain h.0.0.0 lacks in
     ap (λ vs. t ∷ vs) rest ∙ ap (λ v. v ∷ us) (sym same)
+
+pub least_once : {Event Place S : Type 0} (s : System Event Place S) (x : S) (one other : List ℕ) → LeastCycle s x one → LeastCycle s x other → one ≡ other
+least_once s x = least_of_relation (WaitsFor s x) (waits_for_once s x)
 
 member_below : (n : ℕ) (us : List ℕ) → AllByRecursion (λ u. u ≤ n) us → (q : ℕ) → list_any (nat_eq q) us ≡ true → q < suc n
 member_below n [] all q has = absurd (true≢false (sym has))
@@ -119,12 +123,12 @@ module _ (R : ℕ → ℕ → Type 0) (once : (t u v : ℕ) → R t u → R t v 
       let le : u ≤ n = within u k.0 k.1 in
       none u (omega arith) (omega arith) us c.1 (short u us c.0 c.1)
 
-  pub least_from_or_none : ((t : ℕ) × (ts : List ℕ) × IsDistinct nat_eq (t ∷ ts) × Chain R t ts t × ((us : List ℕ) → IsCycle R us → All (λ u. t ≤ u) us)) ⊎ ((us : List ℕ) → IsCycle R us → ⊥)
+  pub least_from_or_none : ((ts : List ℕ) × IsLeastCycle R ts) ⊎ ((us : List ℕ) → IsCycle R us → ⊥)
   unfolding CycleFrom
   least_from_or_none = ⊎_elim
       (λ none. inr (no_cycle none))
       (λ f. ⊎_elim
-      (λ k. inl (f.at, k.0, k.1, k.2, all_from f.at f.before))
+      (λ k. inl (f.at ∷ k.0, ((k.1, k.2), all_from f.at f.before)))
       (λ none. absurd (f.fails none))
       (cycle_from_or_none f.at))
       (all_or_first NoCycleFrom none_or_not 0 (suc n))
@@ -154,12 +158,5 @@ module _ {Event Place S : Type 0} (s : System Event Place S) (x : S) (n : ℕ) (
       (λ going. inr (λ u v a b. going a.1.0))
       (waits_or_not (s.next x t))
 
-from_cycle : {Event Place S : Type 0} (s : System Event Place S) (x : S) (us : List ℕ) → Cycle s x us → IsCycle (WaitsFor s x) us
-from_cycle s x [] h = h
-from_cycle s x (u ∷ us) h = h
-
 pub least_or_none : {Event Place S : Type 0} (s : System Event Place S) (x : S) (n : ℕ) → ((t : ℕ) → DoesWait s x t → t ≤ n) → ((ts : List ℕ) × LeastCycle s x ts) ⊎ ((ts : List ℕ) → Cycle s x ts → ⊥)
-least_or_none s x n few = ⊎_elim
-    (λ k. inl (k.0 ∷ k.1, ((k.2, k.3), λ us c. k.4 us (from_cycle s x us c))))
-    (λ none. inr (λ us c. none us (from_cycle s x us c)))
-    (least_from_or_none (WaitsFor s x) (waits_for_once s x) n (λ t u w. few t w.1.0) (awaits s x n few))
+least_or_none s x n few = least_from_or_none (WaitsFor s x) (waits_for_once s x) n (λ t u w. few t w.1.0) (awaits s x n few)

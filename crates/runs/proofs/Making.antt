@@ -1,15 +1,17 @@
 -- Moves of one thread in a row.
-use Rattle.std.proofs.Common.{◌≡◌, ◌≢◌, ℕ, suc, ◌+◌, ◌-◌, ◌<◌, List, [], ◌∷◌, length, get_or, take, refl, sym, subst, arith, ap, ◌∙◌, ⊎_elim}
+use Rattle.std.proofs.Common.{◌≡◌, ◌≢◌, ℕ, suc, ◌+◌, ◌-◌, ◌<◌, ◌≤◌, List, [], ◌∷◌, ◌++◌, length, get_or, take, refl, sym, subst, arith, ap, ◌∙◌, ⊎_elim}
 use Rattle.std.proofs.lemmas.Bool.{cases_lt}
 use Rattle.std.proofs.lemmas.List.{take_more}
 use Rattle.runs.specs.declared.turn.Turn.{Turn}
-use Rattle.runs.specs.declared.ability.Ability.{Ability}
-use Rattle.runs.specs.declared.ability.Ability.TheVariants
-use Rattle.runs.specs.System.{Next, Goes, Waits, Ended, Stuck, System, Reached, moved, tries, tried, reach}
-use Rattle.runs.specs.Planned.{Moves}
+use Rattle.runs.specs.declared.next_step.NextStep.{NextStep}
+use Rattle.runs.specs.declared.next_step.NextStep.TheVariants
+use Rattle.runs.specs.System.{Next, Goes, Waits, Ended, Stuck, System, Reached, moved, tries, tried, run, reach, start}
+use Rattle.runs.specs.Planned.{AreWhole, Moves}
+use Rattle.runs.specs.Simulates.{Comes}
 use Rattle.runs.specs.Trying.{able, after}
 use Rattle.runs.specs.Made.{Made}
 use Rattle.runs.proofs.Planning.{rests, one_more_same}
+use Rattle.runs.proofs.Reaching.{went}
 use Rattle.runs.proofs.Replaying.{tries-add, reach-append}
 
 -- a thread that is told to move can
@@ -50,7 +52,7 @@ module _ {Event Place S : Type 0} (s : System Event Place S) (t : ℕ) where
   made_none x = record { within = omega arith; whole = λ r e. omega arith; state = λ r e. e; stops = λ lt m. absurd (omega arith) }
 
   -- one more move
-  pub made_more : (x : S) (n : ℕ) (y z : S) (a : Ability) → Made s t n x n y → a ≡ able (s.next y t) → a ≡ TheVariants.Moves → z ≡ after y (s.next y t) → Made s t (n + 1) x (n + 1) z
+  pub made_more : (x : S) (n : ℕ) (y z : S) (a : NextStep) → Made s t n x n y → a ≡ able (s.next y t) → a ≡ TheVariants.Moves → z ≡ after y (s.next y t) → Made s t (n + 1) x (n + 1) z
   made_more x n y z a h answer moves is = record {
     within = omega arith;
     whole = λ r e.
@@ -67,7 +69,7 @@ module _ {Event Place S : Type 0} (s : System Event Place S) (t : ℕ) where
   }
 
   -- no further move
-  pub made_last : (count : ℕ) (x : S) (n : ℕ) (y z : S) (a : Ability) → n < count → Made s t n x n y → a ≡ able (s.next y t) → a ≢ TheVariants.Moves → z ≡ after y (s.next y t) → Made s t count x n z
+  pub made_last : (count : ℕ) (x : S) (n : ℕ) (y z : S) (a : NextStep) → n < count → Made s t n x n y → a ≡ able (s.next y t) → a ≢ TheVariants.Moves → z ≡ after y (s.next y t) → Made s t count x n z
   made_last count x n y z a lt h answer other is =
       let idle : Moves (s.next y t) → ⊥ = λ m. other (answer ∙ told_moves (s.next y t) m) in
       let same : z ≡ y = is ∙ stays y (s.next y t) idle in
@@ -97,3 +99,23 @@ run_more s turns i n x y d lt at h =
     sym (ap (λ xs. (reach s xs).state) (take_more turns i d lt)
     ∙ (ap (λ (q : Reached _). q.state) (reach-append s (take i turns) (turn ∷ []) ∙ made_all s turn.thread turn.count x n y h r (sym at))
     ∙ h.state r (sym at)))
+
+-- moves that lead from x to y are what tries make
+pub comes_made : {Event Place S : Type 0} (s : System Event Place S) (t n i count : ℕ) (x y : S) → Comes s t n i x y → n ≤ count → (n < count → Moves (s.next y t) → ⊥) → Made s t count x n y
+comes_made s t n i count x y comes within stops = record {
+  within = within;
+  whole = λ r e. (went s t n i r y (subst (λ z. Comes s t n i z y) (sym e) comes)).same;
+  state = λ r e. (went s t n i r y (subst (λ z. Comes s t n i z y) (sym e) comes)).state;
+  stops = stops;
+}
+
+pub whole_append : {Event Place S : Type 0} (s : System Event Place S) (xs ys : List Turn) (r : Reached S) → AreWhole s r xs → AreWhole s (run s xs r) ys → AreWhole s r (xs ++ ys)
+whole_append s [] ys r h k = k
+whole_append s (x ∷ xs) ys r h k = (h.0, h.1, whole_append s xs ys (tries s x.thread x.count r) h.2 k)
+
+-- a history that a turn goes on
+pub history_more : {Event Place S : Type 0} (s : System Event Place S) (history : List Turn) (t count n : ℕ) (x y : S) → AreWhole s (start s) history → (reach s history).state ≡ x → Made s t count x n y → 0 < n → ((reach s (history ++ record { thread = t; count = n } ∷ [])).state ≡ y) × AreWhole s (start s) (history ++ record { thread = t; count = n } ∷ [])
+history_more s history t count n x y whole at made pos = (
+  ap (λ (r : Reached _). r.state) (reach-append s history (record { thread = t; count = n } ∷ [])) ∙ made.state (reach s history) at,
+  whole_append s history (record { thread = t; count = n } ∷ []) (start s) whole (pos, made.whole (reach s history) at, tt),
+)

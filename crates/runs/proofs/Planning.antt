@@ -1,18 +1,12 @@
 -- A planned schedule keeps the budget, and each of its turns is whole.
-use Rattle.std.proofs.Common.{◌≡◌, ℕ, zero, suc, ◌+◌, ◌-◌, ◌≤◌, min, List, [], ◌∷◌, ⊎_elim, inl, inr, refl, sym, subst, arith, ap}
-use Rattle.std.proofs.Common.{eq-eqb}
+use Rattle.std.proofs.Common.{◌≡◌, ℕ, zero, suc, ◌+◌, ◌-◌, ◌≤◌, List, [], ◌++◌, Option, refl, sym, subst, arith, ap, append-nil}
 use Rattle.runs.specs.declared.turn.Turn.{Turn}
 use Rattle.runs.specs.System.{Next, Goes, Waits, Ended, Stuck, System, Reached, one_more, moved, tries, start}
-use Rattle.runs.specs.Planned.{Moves, IsRoundRobin, IsGiven, Begins, Plan, RoundRobin, Given, Planned, total, AreWhole}
-
-pub round_robin_within : {Event Place S : Type 0} (s : System Event Place S) (quantum left last : ℕ) (r : Reached S) (schedule : List Turn) → IsRoundRobin s quantum left last r schedule → (total schedule ≤ left) × AreWhole s r schedule
-round_robin_within s quantum left last r [] h = (omega arith, tt)
-round_robin_within s quantum left last r (turn ∷ rest) h =
-    let k = round_robin_within s quantum (left - turn.count) turn.thread (tries s turn.thread turn.count r) rest h.5 in
-    (omega (arith, h.2, k.0), (h.1, h.3, k.1))
+use Rattle.runs.specs.Planned.{Moves, Ahead, Allows, Over, Absent, Halted, Then, IsTaken, Plan, Planned, cut, kept, at_first, total, AreWhole}
+use Rattle.runs.proofs.Putting.{put-same}
 
 pub one_more_same : (t : ℕ) (moves : ℕ → ℕ) → one_more t moves t ≡ suc (moves t)
-one_more_same t moves = rw (eq-eqb t t refl)
+one_more_same t moves = put-same t (suc (moves t)) moves
 
 module _ {Event Place S : Type 0} (s : System Event Place S) (t : ℕ) where
   -- a thread that can't move makes no move, however often it tries
@@ -63,43 +57,40 @@ module _ {Event Place S : Type 0} (s : System Event Place S) (t : ℕ) where
       go front Ended is = rw is (λ le. absurd (none_made count n r (subst (λ (m : Next S). Moves m → ⊥) (sym is) (λ m. m)) le))
       go front Stuck is = rw is (λ le. absurd (none_made count n r (subst (λ (m : Next S). Moves m → ⊥) (sym is) (λ m. m)) le))
 
--- a turn that stands first keeps the budget and is whole, where what follows does
-begins_within : {Event Place S : Type 0} (s : System Event Place S) (t n left : ℕ) (r : Reached S) (schedule : List Turn) (Rest : List Turn → Type 0) → n ≤ left → (tries s t n r).moves t ≡ r.moves t + n → ((rest : List Turn) → Rest rest → (total rest ≤ left - n) × AreWhole s (tries s t n r) rest) → Begins t n schedule Rest → (total schedule ≤ left) × AreWhole s r schedule
-begins_within s t zero left r schedule Rest le whole follows h = let k = follows schedule h in (omega (arith, k.0), k.1)
-begins_within s t (suc n) left r [] Rest le whole follows h = absurd h
-begins_within s t (suc n) left r (turn ∷ rest) Rest le whole follows h =
-    let k = follows rest h.1 in
-    let first : Turn = record { thread = t; count = suc n } in
-    subst (λ (x : Turn). (total (x ∷ rest) ≤ left) × AreWhole s r (x ∷ rest)) (sym h.0) (omega (arith, k.0), (omega arith, whole, k.1))
+-- the moves of a turn within the budget are its first tries, and are no more than are left
+pub cut_moves : {Event Place S : Type 0} (s : System Event Place S) (left : ℕ) (r : Reached S) (turn : Turn) → (tries s turn.thread (cut s left r turn) r).moves turn.thread ≡ r.moves turn.thread + cut s left r turn
+unfolding Fronts
+cut_moves s left r turn = front_moves s turn.thread turn.count (cut s left r turn) r (let rise = moves_rise s turn.thread turn.count r in omega arith)
 
-nothing_within : {Event Place S : Type 0} (s : System Event Place S) (left : ℕ) (r : Reached S) (schedule : List Turn) → schedule ≡ [] → (total schedule ≤ left) × AreWhole s r schedule
-nothing_within s left r schedule e = subst (λ (xs : List Turn). (total xs ≤ left) × AreWhole s r xs) (sym e) (omega arith, tt)
-
--- what a given turn makes within the budget
-cut_to : {Event Place S : Type 0} (s : System Event Place S) (left : ℕ) (r : Reached S) (turn : Turn) → ℕ
-cut_to s left r turn = min left ((tries s turn.thread turn.count r).moves turn.thread - r.moves turn.thread)
-
-cut_fits : {Event Place S : Type 0} (s : System Event Place S) (left : ℕ) (r : Reached S) (turn : Turn) → cut_to s left r turn ≤ left
-unfolding cut_to
+pub cut_fits : {Event Place S : Type 0} (s : System Event Place S) (left : ℕ) (r : Reached S) (turn : Turn) → cut s left r turn ≤ left
 cut_fits s left r turn = omega arith
 
-cut_moves : {Event Place S : Type 0} (s : System Event Place S) (left : ℕ) (r : Reached S) (turn : Turn) → (tries s turn.thread (cut_to s left r turn) r).moves turn.thread ≡ r.moves turn.thread + cut_to s left r turn
-unfolding cut_to Fronts
-cut_moves s left r turn = front_moves s turn.thread turn.count (cut_to s left r turn) r (let rise = moves_rise s turn.thread turn.count r in omega arith)
+-- a schedule that keeps the budget, of whole turns
+Within : {Event Place S : Type 0} → System Event Place S → ℕ → Reached S → List Turn → Type 0
+Within s left r schedule = (total schedule ≤ left) × AreWhole s r schedule
 
-given_within : {Event Place S : Type 0} (s : System Event Place S) (left : ℕ) (r : Reached S) (given schedule : List Turn) → IsGiven s left r given schedule → (total schedule ≤ left) × AreWhole s r schedule
-unfolding cut_to
-given_within s left r [] schedule h = round_robin_within s 50 left 0 r schedule h
-given_within s left r (turn ∷ more) schedule h = elim h [
-  | inl over ↦ nothing_within s left r schedule over.1
-  | inr on ↦ begins_within s turn.thread (cut_to s left r turn) left r schedule _ (cut_fits s left r turn) (cut_moves s left r turn)
-      (λ rest after. ⊎_elim
-      (λ halted. nothing_within s (left - cut_to s left r turn) (tries s turn.thread (cut_to s left r turn) r) rest halted.1)
-      (λ goes. given_within s (left - cut_to s left r turn) (tries s turn.thread (cut_to s left r turn) r) more rest goes.1)
-      after)
-      on.3
-]
+kept_within : {Event Place S : Type 0} (s : System Event Place S) (t n left : ℕ) (r : Reached S) (rest : List Turn) → n ≤ left → (tries s t n r).moves t ≡ r.moves t + n → Within s (left - n) (tries s t n r) rest → Within s left r (kept t n ++ rest)
+unfolding Within
+kept_within s t zero left r rest le whole h = (omega (arith, h.0), h.1)
+kept_within s t (suc n) left r rest le whole h = (omega (arith, h.0), (omega arith, whole, h.1))
+
+-- a turn that is taken, and what follows it
+taken_within : {Event Place S : Type 0} (s : System Event Place S) (left : ℕ) (r : Reached S) (turn : Turn) (n : ℕ) (rest : List Turn) → IsTaken s left r turn n → Within s (left - n) (tries s turn.thread n r) rest → Within s left r (kept turn.thread n ++ rest)
+taken_within s left r turn n rest taken h =
+    kept_within s turn.thread n left r rest
+    (subst (λ m. m ≤ left) taken.moves (cut_fits s left r turn))
+    (subst (λ m. (tries s turn.thread m r).moves turn.thread ≡ r.moves turn.thread + m) taken.moves (cut_moves s left r turn))
+    h
+
+allowed_within : {Event Place S : Type 0} (s : System Event Place S) (left : ℕ) (ahead : Ahead) (r : Reached S) (schedule : List Turn) (bad : Option ℕ) → Allows s left ahead r schedule bad → Within s left r schedule
+unfolding Within
+allowed_within s left ahead r schedule bad (Over over) = (omega arith, tt)
+allowed_within s left ahead r schedule bad (Absent index turn more going absent) = (omega arith, tt)
+allowed_within s left ahead r schedule bad (Halted turn rest n next taken halted) =
+    subst (Within s left r) (append-nil (kept turn.thread n)) (taken_within s left r turn n [] taken (omega arith, tt))
+allowed_within s left ahead r schedule bad (Then turn rest n more bad' next taken free h) =
+    taken_within s left r turn n more taken (allowed_within s (left - n) rest (tries s turn.thread n r) more bad' h)
 
 pub planned_within : {Event Place S : Type 0} (s : System Event Place S) (plan : Plan) (budget : ℕ) (schedule : List Turn) → Planned s plan budget schedule → (total schedule ≤ budget) × AreWhole s (start s) schedule
-planned_within s (RoundRobin quantum) budget schedule h = round_robin_within s quantum budget 0 (start s) schedule h
-planned_within s (Given turns) budget schedule h = given_within s budget (start s) turns schedule h
+unfolding Within
+planned_within s plan budget schedule h = allowed_within s budget (at_first plan) (start s) schedule h.0 h.1

@@ -1,12 +1,14 @@
 -- Cycles in a table of waits, and the one that is reported.
 use Rattle.std.proofs.Common.{◌≡◌, ◌≢◌, ℕ, zero, suc, ◌+◌, ◌-◌, ◌<◌, ◌≤◌, ◌⊎◌, ◌||◌, List, [], ◌∷◌, ◌++◌, Option, Bool, true, false, nat_eq, eqb-true, ne_eqb, eq-eqb, true≢false, refl, sym, subst, arith, ap, ◌∙◌, ⊎_elim, inl, inr}
 use Rattle.std.proofs.lemmas.Bool.{eqb-false}
+use Rattle.std.proofs.lemmas.List.Elements.{All-from_recursion}
 use Rattle.std.proofs.lemmas.Map.Keys.{IsDistinct-push, IsDistinct-head}
 use Rattle.std.specs.Cmp.{IsEquivalence}
-use Rattle.std.specs.List.{IsDistinct, AllByRecursion, list_any}
-use Rattle.runs.specs.Waiting.{Chain}
-use Rattle.runs.specs.WaitTable.{awaited_by, IsAwaited, IsCycle, NoCycle, IsReported, IsCycleFrom}
+use Rattle.std.specs.List.{IsDistinct, All, AllByRecursion, list_any}
+use Rattle.runs.specs.Waiting.{Chain, IsCycle}
+use Rattle.runs.specs.WaitTable.{awaited_by, IsAwaited, NoCycle, IsReported, IsCycleFrom}
 use Rattle.runs.specs.Walks.{Leads, Returns, NoneReturns, IsLeastOfAll}
+use Rattle.runs.proofs.LeastCycles.{least_of_relation}
 use Rattle.runs.proofs.Walkways.{leads_more, leads_add, leads_once, comes_back, some_once}
 
 same_numbers : IsEquivalence nat_eq
@@ -137,7 +139,7 @@ module _ (table : List (Option ℕ)) where
         all_return first u us (suc j) (leads_more table j first t u way c.0) c.1,
       )
 
-  cycle_returns : (us : List ℕ) → IsCycle table us → AllByRecursion (Returns table) us
+  cycle_returns : (us : List ℕ) → IsCycle (IsAwaited table) us → AllByRecursion (Returns table) us
   cycle_returns [] c = absurd c
   cycle_returns (t ∷ ts) c = all_return t t ts 0 refl c.1
 
@@ -151,25 +153,7 @@ module _ (table : List (Option ℕ)) where
 
   pub reported : (t : ℕ) (ts : List ℕ) → IsLeastOfAll table t → IsCycleFrom table t ts → IsReported table ts
   reported t [] least c = absurd c
-  reported t (u ∷ us) least c = (c.1, λ vs cycle. subst (λ w. AllByRecursion (λ v. w ≤ v) vs) (sym c.0) (all_from least vs (cycle_returns vs cycle)))
-
-  -- two ways to one end that don't pass it are the same
-  chain_once : (u t : ℕ) (xs ys : List ℕ) → Chain (IsAwaited table) u xs t → Chain (IsAwaited table) u ys t → AllByRecursion (λ y. nat_eq t y ≡ false) xs → AllByRecursion (λ y. nat_eq t y ≡ false) ys → xs ≡ ys
-  chain_once u t [] [] a b p q = refl
-  chain_once u t [] (y ∷ ys) a b p q = absurd (eqb-false t y q.0 (some_once (awaited_by table u) t y a b.0))
-  chain_once u t (x ∷ xs) [] a b p q = absurd (eqb-false t x p.0 (some_once (awaited_by table u) t x b a.0))
-  chain_once u t (x ∷ xs) (y ∷ ys) a b p q =
-      let same : x ≡ y = some_once (awaited_by table u) x y a.0 b.0 in
-      let rest : xs ≡ ys = chain_once x t xs ys a.1 (subst (λ w. Chain (IsAwaited table) w ys t) (sym same) b.1) p.1 q.1 in
-      ap (λ w. w ∷ xs) same ∙ ap (λ ws. y ∷ ws) rest
+  reported t (u ∷ us) least c = (c.1, λ vs cycle. subst (λ w. All (λ v. w ≤ v) vs) (sym c.0) (All-from_recursion _ vs (all_from least vs (cycle_returns vs cycle))))
 
 pub reported_once : (table : List (Option ℕ)) (one other : List ℕ) → IsReported table one → IsReported table other → one ≡ other
-reported_once table [] other a b = absurd a
-reported_once table (t ∷ ts) [] a b = absurd b
-reported_once table (t ∷ ts) (u ∷ us) a b =
-    let low = (a.1 (u ∷ us) b.0).0 in
-    let high = (b.1 (t ∷ ts) a.0).0 in
-    let same : u ≡ t = omega arith in
-    let cycle : IsDistinct nat_eq (t ∷ us) × Chain (IsAwaited table) t us t = subst (λ w. IsDistinct nat_eq (w ∷ us) × Chain (IsAwaited table) w us w) same b.0 in
-    let rest : ts ≡ us = chain_once table t t ts us a.0.1 cycle.1 (IsDistinct-head nat_eq t ts a.0.0) (IsDistinct-head nat_eq t us cycle.0) in
-    ap (λ ws. t ∷ ws) rest ∙ ap (λ w. w ∷ us) (sym same)
+reported_once table = least_of_relation (IsAwaited table) (λ t. some_once (awaited_by table t))

@@ -1,12 +1,12 @@
--- Every plan has a schedule, where each thread that can move is there.
-use Rattle.std.proofs.Common.{◌≡◌, ℕ, zero, suc, ◌+◌, ◌-◌, ◌*◌, ◌/◌, ◌%◌, ◌<◌, ◌≤◌, min, List, [], ◌∷◌, ◌⊎◌, ⊎_elim, inl, inr, refl, sym, subst, arith, ap, div-add-mod'}
+-- Every plan has a schedule, where a thread that isn't there has ended.
+use Rattle.std.proofs.Common.{◌≡◌, ℕ, zero, suc, ◌+◌, ◌-◌, ◌*◌, ◌/◌, ◌%◌, ◌<◌, ◌≤◌, min, List, [], ◌∷◌, ◌++◌, length, Option, None, Some, ◌⊎◌, ⊎_elim, inl, inr, refl, sym, subst, arith, ap, div-add-mod'}
 use Rattle.std.proofs.lemmas.Bool.{cases_lt}
-use Rattle.std.proofs.lemmas.Nat.{mod-mul-add}
+use Rattle.std.proofs.lemmas.Nat.{mod-mul-add, mod_below}
 use Rattle.runs.specs.declared.turn.Turn.{Turn}
-use Rattle.runs.specs.System.{Next, Goes, Waits, Ended, Stuck, System, Reached, moved, tried, tries, run, reach, start}
-use Rattle.runs.specs.Planned.{Moves, IsStuck, Rests, IsOver, in_circle, ComesNext, IsRoundRobin, IsGiven, Begins, Plan, RoundRobin, Given, Planned, HasQuantum, MoversAreThere}
+use Rattle.runs.specs.System.{AbsentHaveEnded, IsAbsent, Next, Goes, Waits, Ended, Stuck, System, Reached, moved, tries, run, reach, start}
+use Rattle.runs.specs.Planned.{Moves, IsStuck, Rests, IsOver, IsHalted, IsNext, IsTaken, in_circle, ComesNext, cut, kept, Ahead, GivenTurn, Round, given_from, at_first, Allows, Over, Absent, Halted, Then, Plan, RoundRobin, Given, Planned, HasQuantum}
 use Rattle.runs.proofs.Determined.{moves_rests}
-use Rattle.runs.proofs.Planning.{one_more_same}
+use Rattle.runs.proofs.Planning.{moves_rise, one_more_same, rests}
 use Rattle.runs.proofs.Searching.{Decided, Throughout, FirstFailing, all_or_first}
 
 moves_or_not : {S : Type 0} (n : Next S) → Decided (Moves n)
@@ -39,7 +39,7 @@ both_or_not (inl p) (inr no_q) = inr (λ b. no_q b.1)
 both_or_not (inr no_p) q = inr (λ b. no_p b.0)
 
 -- what doesn't rest can move or is stuck
-moves_or_stuck : {S : Type 0} (n : Next S) → (Rests n → ⊥) → Moves n ⊎ IsStuck n
+pub moves_or_stuck : {S : Type 0} (n : Next S) → (Rests n → ⊥) → Moves n ⊎ IsStuck n
 moves_or_stuck (Goes x) busy = inl tt
 moves_or_stuck Waits busy = absurd (busy tt)
 moves_or_stuck Ended busy = absurd (busy tt)
@@ -64,154 +64,170 @@ round_from n t q m u at small pos le =
 comes_round : (n t u : ℕ) → 1 ≤ u → u ≤ n → (d : ℕ) × (1 ≤ d) × (d ≤ n) × (u ≡ in_circle n t d)
 comes_round n t u pos le = round_from n t (t / n) (t % n) u (sym (div-add-mod' t n)) (omega arith) pos le
 
--- the moves that the first of n tries make: as many as there are tries, or fewer where t can't move on
-record Made {Event Place S : Type 0} (s : System Event Place S) (t n : ℕ) (r : Reached S) : Type 0 where
-  count : ℕ
-  within : count ≤ n
-  whole : (tries s t count r).moves t ≡ r.moves t + count
-  ends : (count ≡ n) ⊎ ((count < n) × (Moves (s.next (tries s t count r).state t) → ⊥))
-  some : Moves (s.next r.state t) → 1 ≤ n → 1 ≤ count
-
 module _ {Event Place S : Type 0} (s : System Event Place S) where
-  one_further : (t : ℕ) (r : Reached S) → Moves (s.next r.state t) → (tried s t r).moves t ≡ suc (r.moves t)
-  one_further t r moves = go (s.next r.state t) moves
+  -- a thread that can move makes a move
+  pub cut_some : (left : ℕ) (r : Reached S) (turn : Turn) → Moves (s.next r.state turn.thread) → 1 ≤ left → 1 ≤ turn.count → 1 ≤ cut s left r turn
+  cut_some left r turn moves some = go turn.count
     where
-      go : (next : Next S) → Moves next → (moved r t (s.inits r.state t) next).moves t ≡ suc (r.moves t)
-      go (Goes x) m = one_more_same t r.moves
-      go Waits m = absurd m
-      go Ended m = absurd m
-      go Stuck m = absurd m
+      t : ℕ
+      t = turn.thread
 
-  made : (t n : ℕ) (r : Reached S) → Made s t n r
-  made t zero r = record { count = 0; within = omega arith; whole = omega arith; ends = inl refl; some = λ m pos. absurd (omega arith) }
-  made t (suc n) r = go (made t n (tried s t r)) (moves_or_not (s.next r.state t))
-    where
-      go : Made s t n (tried s t r) → Decided (Moves (s.next r.state t)) → Made s t (suc n) r
-      go m (inl moves) = record {
-        count = suc m.count;
-        within = omega (arith, m.within);
-        whole = omega (arith, m.whole, one_further t r moves);
-        ends = ⊎_elim (λ e. inl (omega (arith, e))) (λ p. inr (omega (arith, p.0), p.1)) m.ends;
-        some = λ h pos. omega arith;
-      }
-      go m (inr idle) = record {
-        count = 0;
-        within = omega arith;
-        whole = omega arith;
-        ends = inr (omega arith, idle);
-        some = λ h pos. absurd (idle h);
-      }
+      first : (n : ℕ) (next : Next S) → Moves next → suc (r.moves t) ≤ (tries s t n (moved r t (s.inits r.state t) next)).moves t
+      first n (Goes x) m =
+          let after : Reached S = moved r t (s.inits r.state t) (Goes x) in
+          let rise = moves_rise s t n after in
+          let more : after.moves t ≡ suc (r.moves t) = one_more_same t r.moves in
+          omega arith
+      first n Waits m = absurd m
+      first n Ended m = absurd m
+      first n Stuck m = absurd m
 
-  -- movers are there in each state that a run comes to from r
-  MoversStayThere : Reached S → Type 0
-  MoversStayThere r = (turns : List Turn) → MoversAreThere s (run s turns r).state
+      go : (count : ℕ) → 1 ≤ count → 1 ≤ min left ((tries s t count r).moves t - r.moves t)
+      go zero pos = absurd (omega arith)
+      go (suc count) pos = let made = first count (s.next r.state t) moves in omega arith
 
-  stay_there : (t n : ℕ) (r : Reached S) → MoversStayThere r → MoversStayThere (tries s t n r)
-  unfolding MoversStayThere
-  stay_there t n r stay turns = stay (record { thread = t; count = n } ∷ turns)
+  -- absent threads have ended in each state that a run comes to from r
+  AbsentStayEnded : Reached S → Type 0
+  AbsentStayEnded r = (turns : List Turn) → AbsentHaveEnded s (run s turns r).state
 
-  there_now : (r : Reached S) → MoversStayThere r → MoversAreThere s r.state
-  unfolding MoversStayThere
-  there_now r stay = stay []
+  stay_ended : (t n : ℕ) (r : Reached S) → AbsentStayEnded r → AbsentStayEnded (tries s t n r)
+  unfolding AbsentStayEnded
+  stay_ended t n r stay turns = stay (record { thread = t; count = n } ∷ turns)
+
+  ended_now : (r : Reached S) → AbsentStayEnded r → AbsentHaveEnded s r.state
+  unfolding AbsentStayEnded
+  ended_now r stay = stay []
+
+  absent_or_there : (x : S) (t : ℕ) → IsAbsent s x t ⊎ ((1 ≤ t) × (t ≤ s.threads x))
+  absent_or_there x t = ⊎_elim (λ none. inl (inl (omega arith))) (λ pos. ⊎_elim (λ past. inl (inr past)) (λ le. inr (pos, le)) (cases_lt (s.threads x) t)) (cases_lt t 1)
+
+  not_absent : (x : S) (t : ℕ) → 1 ≤ t → t ≤ s.threads x → IsAbsent s x t → ⊥
+  not_absent x t pos le absent = ⊎_elim (λ none. absurd (omega arith)) (λ past. absurd (omega arith)) absent
+
+  -- a thread that can move is there
+  mover_there : (x : S) → AbsentHaveEnded s x → (t : ℕ) → Moves (s.next x t) → (1 ≤ t) × (t ≤ s.threads x)
+  mover_there x ended t moves = ⊎_elim (λ absent. absurd (subst Moves (ended t absent) moves)) (λ there. there) (absent_or_there x t)
 
   RestsInCircle : S → ℕ → ℕ → Type 0
   RestsInCircle x last d = Rests (s.next x (in_circle (s.threads x) last d))
 
   -- no thread moves where those in the circle rest
-  all_rest : (last : ℕ) (r : Reached S) → MoversAreThere s r.state → Throughout (RestsInCircle r.state last) 1 (suc (s.threads r.state)) → (t : ℕ) → Moves (s.next r.state t) → ⊥
+  all_rest : (last : ℕ) (x : S) → AbsentHaveEnded s x → Throughout (RestsInCircle x last) 1 (suc (s.threads x)) → (t : ℕ) → Moves (s.next x t) → ⊥
   unfolding RestsInCircle
-  all_rest last r there all t moves =
-      let k = there t moves in
-      let c = comes_round (s.threads r.state) last t k.0 k.1 in
-      moves_rests (s.next r.state t) moves (subst (λ u. Rests (s.next r.state u)) (sym c.3) (all c.0 c.1 (omega (arith, c.2))))
+  all_rest last x ended all t moves =
+      let k = mover_there x ended t moves in
+      let c = comes_round (s.threads x) last t k.0 k.1 in
+      moves_rests (s.next x t) moves (subst (λ u. Rests (s.next x u)) (sym c.3) (all c.0 c.1 (omega (arith, c.2))))
 
-  RoundRobins : ℕ → ℕ → ℕ → Reached S → Type 0
-  RoundRobins quantum left last r = (schedule : List Turn) × IsRoundRobin s quantum left last r schedule
-
-  -- a turn of u, which comes next and can move, and what follows it
-  first_turn : (quantum left last u : ℕ) (r : Reached S) → 1 ≤ quantum → 1 ≤ left → ComesNext s r.state last u → Moves (s.next r.state u) → ((n : ℕ) → 1 ≤ n → RoundRobins quantum (left - n) u (tries s u n r)) → RoundRobins quantum left last r
-  unfolding RoundRobins
-  first_turn quantum left last u r pos some next moves further =
-      let m = made u (min quantum left) r in
-      let positive : 1 ≤ m.count = m.some moves (omega arith) in
-      let rest = further m.count positive in
-      let ends : (m.count ≡ quantum) ⊎ ((m.count < quantum) × ((m.count ≡ left) ⊎ (Moves (s.next (tries s u m.count r).state u) → ⊥))) =
-      ⊎_elim
-      (λ all. ⊎_elim (λ lt. inl (omega arith)) (λ ge. ⊎_elim inl (λ less. inr (less, inl (omega arith))) (equal_or_less m.count quantum (omega arith))) (cases_lt quantum left))
-      (λ p. inr (omega (arith, p.0), inr p.1))
-      m.ends in
-      (record { thread = u; count = m.count } ∷ rest.0, (next, positive, omega (arith, m.within), m.whole, ends, rest.1))
-    where
-      equal_or_less : (a b : ℕ) → a ≤ b → (a ≡ b) ⊎ (a < b)
-      equal_or_less a b le = ⊎_elim inr (λ ge. inl (omega arith)) (cases_lt a b)
-
-  -- a schedule from where some thread in the circle doesn't rest
-  at_busy : (quantum left last : ℕ) (r : Reached S) → 1 ≤ quantum → 1 ≤ left → FirstFailing (RestsInCircle r.state last) 1 (suc (s.threads r.state)) → ((u n : ℕ) → 1 ≤ n → RoundRobins quantum (left - n) u (tries s u n r)) → RoundRobins quantum left last r
-  unfolding RoundRobins RestsInCircle
-  at_busy quantum left last r pos some f further =
-      let u = in_circle (s.threads r.state) last f.at in
-      let next : ComesNext s r.state last u = (f.at, f.above, omega (arith, f.below), refl, f.before) in
-      ⊎_elim
-      (λ moves. first_turn quantum left last u r pos some next moves (λ n p. further u n p))
-      (λ stuck. ([], inr (u, next, stuck)))
-      (moves_or_stuck (s.next r.state u) f.fails)
-
-  -- by recursion on a bound of the moves that are left
-  round_robin : (fuel quantum left last : ℕ) (r : Reached S) → 1 ≤ quantum → left ≤ fuel → MoversStayThere r → RoundRobins quantum left last r
-  unfolding RoundRobins RestsInCircle
-  round_robin zero quantum left last r pos le stay = ([], inl (inl (omega arith)))
-  round_robin (suc fuel) quantum left last r pos le stay = go (λ u n p. round_robin fuel quantum (left - n) u (tries s u n r) pos (omega arith) (stay_there u n r stay)) (cases_lt 0 left)
-    where
-      go : ((u n : ℕ) → 1 ≤ n → RoundRobins quantum (left - n) u (tries s u n r)) → (0 < left) ⊎ (left ≤ 0) → RoundRobins quantum left last r
-      go further (inl some) = ⊎_elim
-          (λ all. ([], inl (inr (all_rest last r (there_now r stay) all))))
-          (λ f. at_busy quantum left last r pos some f further)
-          (all_or_first (RestsInCircle r.state last) (λ d. rests_or_not (s.next r.state (in_circle (s.threads r.state) last d))) 1 (suc (s.threads r.state)))
-      go further (inr none) = ([], inl (inl (omega arith)))
-
-  over_or_not : (left : ℕ) (x : S) → MoversAreThere s x → Decided (IsOver s left x)
-  over_or_not left x there = ⊎_elim
+  pub over_or_not : (left : ℕ) (x : S) → AbsentHaveEnded s x → Decided (IsOver s left x)
+  over_or_not left x ended = ⊎_elim
       (λ some. ⊎_elim
-      (λ all. inl (inr (λ t moves. let k = there t moves in all t k.0 (omega (arith, k.1)) moves)))
+      (λ all. inl (inr (λ t moves. let k = mover_there x ended t moves in all t k.0 (omega (arith, k.1)) moves)))
       (λ f. inr (λ over. ⊎_elim (λ e. absurd (omega arith)) (λ none. f.fails (none f.at)) over))
       (all_or_first (λ t. Moves (s.next x t) → ⊥) (λ t. idle_or_not (s.next x t)) 1 (suc (s.threads x))))
       (λ none. inl (inl (omega arith)))
       (cases_lt 0 left)
 
--- a turn of n moves before the rest, or none
-begin : (t n : ℕ) (rest : List Turn) (Rest : List Turn → Type 0) → Rest rest → (schedule : List Turn) × Begins t n schedule Rest
-begin t zero rest Rest h = (rest, h)
-begin t (suc n) rest Rest h = (record { thread = t; count = suc n } ∷ rest, (refl, h))
+  -- a thread of the circle is there
+  pub circle_there : (x : S) (t u : ℕ) → ComesNext s x t u → IsAbsent s x u → ⊥
+  circle_there x t u c =
+      let below = mod_below (t + c.0 - 1) (s.threads x) (let low = c.1 in let high = c.2 in omega arith) in
+      let is = c.3 in
+      not_absent x u (omega arith) (omega arith)
 
--- behind a given turn: the run halts there, or goes on
-behind : (halts : Type 0) (Goes_on : List Turn → Type 0) → Decided halts → (rest : List Turn) × Goes_on rest → (rest : List Turn) × ((halts × (rest ≡ [])) ⊎ ((halts → ⊥) × Goes_on rest))
-behind halts Goes_on (inl h) further = ([], inl (h, refl))
-behind halts Goes_on (inr not) further = (further.0, inr (not, further.1))
+  abbrev Schedules : ℕ → Ahead → Reached S → Type 0
+  Schedules left ahead r = (schedule : List Turn) × (bad : Option ℕ) × Allows s left ahead r schedule bad
 
--- a given turn is reached, or the schedule ends before it
-reached_or_not : {Event Place S : Type 0} (s : System Event Place S) (left : ℕ) (x : S) (t : ℕ) → MoversAreThere s x → (IsOver s left x ⊎ (s.threads x < t) ⊎ (t ≡ 0)) ⊎ ((IsOver s left x → ⊥) × (1 ≤ t) × (t ≤ s.threads x))
-reached_or_not s left x t there = ⊎_elim
-    (λ over. inl (inl over))
-    (λ going. ⊎_elim
-    (λ past. inl (inr (inl past)))
-    (λ le. ⊎_elim (λ pos. inr (going, pos, le)) (λ none. inl (inr (inr (omega arith)))) (cases_lt 0 t))
-    (cases_lt (s.threads x) t))
-    (over_or_not s left x there)
+  -- a turn that is next, and a schedule behind it where it doesn't halt
+  with_turn : (left : ℕ) (ahead : Ahead) (r : Reached S) (turn : Turn) (rest : Ahead) → IsNext s r.state ahead turn rest → (IsOver s left r.state → ⊥) → (IsAbsent s r.state turn.thread → ⊥) → ((IsHalted s turn (cut s left r turn) (tries s turn.thread (cut s left r turn) r).state → ⊥) → Schedules (left - cut s left r turn) rest (tries s turn.thread (cut s left r turn) r)) → Schedules left ahead r
+  with_turn left ahead r turn rest next going there further = go (both_or_not (less_or_not n turn.count) (stuck_or_not (s.next (tries s turn.thread n r).state turn.thread)))
+    where
+      n : ℕ
+      n = cut s left r turn
 
-given : {Event Place S : Type 0} (s : System Event Place S) (left : ℕ) (r : Reached S) (turns : List Turn) → MoversStayThere s r → (schedule : List Turn) × IsGiven s left r turns schedule
-unfolding RoundRobins
-given s left r [] stay = round_robin s left 50 left 0 r (omega arith) (omega arith) stay
-given s left r (turn ∷ more) stay = ⊎_elim
-    (λ over. ([], inl (over, refl)))
-    (λ on.
-    let n = min left ((tries s turn.thread turn.count r).moves turn.thread - r.moves turn.thread) in
-    let r' = tries s turn.thread n r in
-    let rest = behind ((n < turn.count) × IsStuck (s.next r'.state turn.thread)) (IsGiven s (left - n) r' more) (both_or_not (less_or_not n turn.count) (stuck_or_not (s.next r'.state turn.thread))) (given s (left - n) r' more (stay_there s turn.thread n r stay)) in
-    let whole = begin turn.thread n rest.0 _ rest.1 in
-    (whole.0, inr (on.0, on.1, on.2, whole.1)))
-    (reached_or_not s left r.state turn.thread (there_now s r stay))
+      taken : IsTaken s left r turn (cut s left r turn)
+      taken = record { going = going; there = there; moves = refl }
 
-pub planned_always : {Event Place S : Type 0} (s : System Event Place S) (plan : Plan) (budget : ℕ) → HasQuantum plan → ((turns : List Turn) → MoversAreThere s (reach s turns).state) → (schedule : List Turn) × Planned s plan budget schedule
-unfolding MoversStayThere RoundRobins
-planned_always s (RoundRobin quantum) budget pos there = round_robin s budget quantum budget 0 (start s) pos (omega arith) there
-planned_always s (Given turns) budget pos there = given s budget (start s) turns there
+      go : Decided (IsHalted s turn (cut s left r turn) (tries s turn.thread (cut s left r turn) r).state) → Schedules left ahead r
+      go (inl halted) = (kept turn.thread (cut s left r turn), None, Halted turn rest (cut s left r turn) next taken halted)
+      go (inr free) = let h = further free in (kept turn.thread (cut s left r turn) ++ h.0, h.1, Then turn rest (cut s left r turn) h.0 h.1 next taken free h.2)
+
+  -- a thread that doesn't rest makes a move, or its turn halts at once
+  busy_moves : (left quantum u : ℕ) (r : Reached S) → 1 ≤ left → 1 ≤ quantum → (Rests (s.next r.state u) → ⊥) → (IsHalted s (record { thread = u; count = quantum }) (cut s left r (record { thread = u; count = quantum })) (tries s u (cut s left r (record { thread = u; count = quantum })) r).state → ⊥) → 1 ≤ cut s left r (record { thread = u; count = quantum })
+  busy_moves left quantum u r some pos busy free = ⊎_elim
+      (λ moves. cut_some left r (record { thread = u; count = quantum }) moves some pos)
+      (λ stuck.
+      let idle : Moves (s.next r.state u) → ⊥ = λ m. moves_not_stuck (s.next r.state u) m stuck in
+      let same : (tries s u quantum r).moves u ≡ r.moves u = ap (λ (q : Reached S). q.moves u) (rests s u quantum r idle) in
+      let none : cut s left r (record { thread = u; count = quantum }) ≡ 0 = omega arith in
+      absurd (free (rw none (pos, stuck))))
+      (moves_or_stuck (s.next r.state u) busy)
+    where
+      moves_not_stuck : (n : Next S) → Moves n → IsStuck n → ⊥
+      moves_not_stuck (Goes x) m k = k
+      moves_not_stuck Waits m k = m
+      moves_not_stuck Ended m k = m
+      moves_not_stuck Stuck m k = m
+
+  -- the given turns that are left
+  turns_left : Ahead → ℕ
+  turns_left (GivenTurn index turn more) = suc (length more)
+  turns_left (Round quantum last) = 0
+
+  given_left : (index : ℕ) (turns : List Turn) → turns_left (given_from index turns) ≡ length turns
+  unfolding turns_left
+  given_left index [] = refl
+  given_left index (turn ∷ more) = refl
+
+  HasRound : Ahead → Type 0
+  HasRound (GivenTurn index turn more) = Unit {0}
+  HasRound (Round quantum last) = 1 ≤ quantum
+
+  given_round : (index : ℕ) (turns : List Turn) → HasRound (given_from index turns)
+  unfolding HasRound
+  given_round index [] = omega arith
+  given_round index (turn ∷ more) = tt
+
+  -- by recursion on a bound of the given turns and the moves that are left
+  schedules : (fuel left : ℕ) (ahead : Ahead) (r : Reached S) → HasRound ahead → turns_left ahead + left ≤ fuel → AbsentStayEnded r → Schedules left ahead r
+  unfolding RestsInCircle turns_left HasRound
+  schedules zero left ahead r round le stay = ([], None, Over (inl (omega arith)))
+  schedules (suc fuel) left ahead r round le stay = ⊎_elim
+      (λ over. ([], None, Over over))
+      (λ going. on (λ left ahead r round le stay. schedules fuel left ahead r round le stay) going ahead round le)
+      (over_or_not left r.state (ended_now r stay))
+    where
+      Shorter : Type 0
+      Shorter = (left : ℕ) (ahead : Ahead) (r : Reached S) → HasRound ahead → turns_left ahead + left ≤ fuel → AbsentStayEnded r → Schedules left ahead r
+
+      round_on : Shorter → (IsOver s left r.state → ⊥) → (quantum last : ℕ) → 1 ≤ quantum → left ≤ suc fuel → FirstFailing (RestsInCircle r.state last) 1 (suc (s.threads r.state)) → Schedules left (Round quantum last) r
+      round_on shorter going quantum last pos le f =
+          let u = in_circle (s.threads r.state) last f.at in
+          let turn : Turn = record { thread = u; count = quantum } in
+          let some : 1 ≤ left = ⊎_elim (λ none. absurd (going (inl (omega arith)))) (λ pos. pos) (cases_lt left 1) in
+          let next : ComesNext s r.state last u = (f.at, f.above, omega (arith, f.below), refl, f.before, f.fails) in
+          with_turn left (Round quantum last) r turn (Round quantum u) (next, refl, refl) going (circle_there r.state last u next)
+          (λ free. let made = busy_moves left quantum u r some pos f.fails free in
+          shorter (left - cut s left r turn) (Round quantum u) (tries s u (cut s left r turn) r) pos (omega arith) (stay_ended u (cut s left r turn) r stay))
+
+      on : Shorter → (IsOver s left r.state → ⊥) → (ahead : Ahead) → HasRound ahead → turns_left ahead + left ≤ suc fuel → Schedules left ahead r
+      on shorter going (Round quantum last) round le = ⊎_elim
+          (λ all. absurd (going (inr (all_rest last r.state (ended_now r stay) all))))
+          (λ f. round_on shorter going quantum last round (omega arith) f)
+          (all_or_first (RestsInCircle r.state last) (λ d. rests_or_not (s.next r.state (in_circle (s.threads r.state) last d))) 1 (suc (s.threads r.state)))
+      on shorter going (GivenTurn index turn more) round le = ⊎_elim
+          (λ absent. ([], Some index, Absent index turn more going absent))
+          (λ there. with_turn left (GivenTurn index turn more) r turn (given_from (suc index) more) (refl, refl) going (not_absent r.state turn.thread there.0 there.1)
+          (λ free. shorter (left - cut s left r turn) (given_from (suc index) more) (tries s turn.thread (cut s left r turn) r) (given_round (suc index) more) (let size = given_left (suc index) more in omega arith) (stay_ended turn.thread (cut s left r turn) r stay)))
+          (absent_or_there r.state turn.thread)
+
+  has_round : (plan : Plan) → HasQuantum plan → HasRound (at_first plan)
+  unfolding HasRound
+  has_round (RoundRobin quantum) pos = pos
+  has_round (Given turns) pos = given_round 0 turns
+
+pub planned_always : {Event Place S : Type 0} (s : System Event Place S) (plan : Plan) (budget : ℕ) → HasQuantum plan → ((turns : List Turn) → AbsentHaveEnded s (reach s turns).state) → (schedule : List Turn) × Planned s plan budget schedule
+unfolding AbsentStayEnded
+planned_always s plan budget pos ended =
+    let h = schedules s (turns_left s (at_first plan) + budget) budget (at_first plan) (start s) (has_round s plan pos) (omega arith) ended in
+    (h.0, (h.1, h.2))

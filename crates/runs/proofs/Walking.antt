@@ -1,12 +1,12 @@
 -- What a walk over the threads finds.
 use Rattle.std.proofs.Common.{◌≡◌, ◌≢◌, ℕ, ◌+◌, ◌<◌, ◌≤◌, Bool, true, false, refl, sym, subst, arith, ap, ◌∙◌, ⊎_elim, inl, inr, true≢false}
 use Rattle.std.proofs.lemmas.Bool.{cases_lt, cases_eq}
-use Rattle.runs.specs.declared.ability.Ability.{Ability}
-use Rattle.runs.specs.declared.ability.Ability.TheVariants
-use Rattle.runs.specs.System.{Next, Goes, Waits, Ended, Stuck, System}
-use Rattle.runs.specs.Planned.{Moves, IsStuck}
-use Rattle.runs.specs.Trying.{able, AreOthersEnded}
-use Rattle.runs.specs.Ends.{SomeMoves, NoneMoves, NoneStuck}
+use Rattle.runs.specs.declared.next_step.NextStep.{NextStep}
+use Rattle.runs.specs.declared.next_step.NextStep.TheVariants
+use Rattle.runs.specs.System.{AbsentHaveEnded, Next, Goes, Waits, Ended, Stuck, System}
+use Rattle.runs.specs.Planned.{Moves, NoneMoves, IsStuck}
+use Rattle.runs.specs.Trying.{able}
+use Rattle.runs.specs.Ends.{SomeMoves, NoneStuck}
 use Rattle.runs.proofs.Making.{told_moves}
 
 -- what a thread does next, where it is told
@@ -41,7 +41,7 @@ moves_told Ended e = cc
 moves_told Stuck e = cc
 
 -- none of the first k threads does so, or one does
-record Seen {Event Place S : Type 0} (s : System Event Place S) (x : S) (can : Ability) (k : ℕ) (seen : Bool) : Type 0 where
+record Seen {Event Place S : Type 0} (s : System Event Place S) (x : S) (can : NextStep) (k : ℕ) (seen : Bool) : Type 0 where
   some : seen ≡ true → (t : ℕ) × (able (s.next x t) ≡ can)
   none : seen ≡ false → (t : ℕ) → 1 ≤ t → t ≤ k → able (s.next x t) ≢ can
 
@@ -53,26 +53,26 @@ pub record Walked {Event Place S : Type 0} (s : System Event Place S) (x : S) (k
 
 module _ {Event Place S : Type 0} (s : System Event Place S) (x : S) where
   -- one thread more that doesn't do so
-  misses : (can : Ability) (k : ℕ) → ((t : ℕ) → 1 ≤ t → t ≤ k → able (s.next x t) ≢ can) → able (s.next x (k + 1)) ≢ can → (t : ℕ) → 1 ≤ t → t ≤ k + 1 → able (s.next x t) ≢ can
+  misses : (can : NextStep) (k : ℕ) → ((t : ℕ) → 1 ≤ t → t ≤ k → able (s.next x t) ≢ can) → able (s.next x (k + 1)) ≢ can → (t : ℕ) → 1 ≤ t → t ≤ k + 1 → able (s.next x t) ≢ can
   misses can k none other t low high =
       ⊎_elim
       (λ e. subst (λ u. able (s.next x u) ≢ can) (sym e) other)
       (λ ne. none t low (omega arith))
       (cases_eq t (k + 1))
 
-  seen_other : (can : Ability) (k : ℕ) (seen : Bool) → Seen s x can k seen → able (s.next x (k + 1)) ≢ can → Seen s x can (k + 1) seen
+  seen_other : (can : NextStep) (k : ℕ) (seen : Bool) → Seen s x can k seen → able (s.next x (k + 1)) ≢ can → Seen s x can (k + 1) seen
   seen_other can k seen h other = record { some = h.some; none = λ e. misses can k (h.none e) other }
 
-  seen_here : (can : Ability) (k : ℕ) → able (s.next x (k + 1)) ≡ can → Seen s x can (k + 1) true
+  seen_here : (can : NextStep) (k : ℕ) → able (s.next x (k + 1)) ≡ can → Seen s x can (k + 1) true
   seen_here can k e = record { some = λ _. (k + 1, e); none = λ f. absurd (true≢false f) }
 
-  unseen : (can : Ability) → Seen s x can 0 false
+  unseen : (can : NextStep) → Seen s x can 0 false
   unseen can = record { some = λ e. absurd (true≢false (sym e)); none = λ e t low high. absurd (omega arith) }
 
   pub walked_none : Walked s x 0 false false
   walked_none = record { stuck = λ t low high. absurd (omega arith); moving = unseen TheVariants.Moves; waiting = unseen TheVariants.Waits }
 
-  differs : (a b c : Ability) → a ≡ b → b ≢ c → a ≢ c
+  differs : (a b c : NextStep) → a ≡ b → b ≢ c → a ≢ c
   differs a b c e ne f = ne (sym e ∙ f)
 
   pub walked_moves : (k : ℕ) (m w : Bool) → Walked s x k m w → able (s.next x (k + 1)) ≡ TheVariants.Moves → Walked s x (k + 1) true w
@@ -97,7 +97,7 @@ module _ {Event Place S : Type 0} (s : System Event Place S) (x : S) where
   }
 
   -- none of all numbers does so, where none of the threads does and others have ended
-  everywhere : (can : Ability) (n : ℕ) → can ≢ TheVariants.Ended → AreOthersEnded s x → n ≡ s.threads x → ((t : ℕ) → 1 ≤ t → t ≤ n → able (s.next x t) ≢ can) → (t : ℕ) → able (s.next x t) ≢ can
+  everywhere : (can : NextStep) (n : ℕ) → can ≢ TheVariants.Ended → AbsentHaveEnded s x → n ≡ s.threads x → ((t : ℕ) → 1 ≤ t → t ≤ n → able (s.next x t) ≢ can) → (t : ℕ) → able (s.next x t) ≢ can
   everywhere can n ne others is none t =
       ⊎_elim
       (λ zero_. λ e. ne (sym e ∙ ap able (others t (inl (omega arith)))))
@@ -107,13 +107,13 @@ module _ {Event Place S : Type 0} (s : System Event Place S) (x : S) where
       (cases_lt n t))
       (cases_lt t 1)
 
-  pub none_stuck : (n : ℕ) (m w : Bool) → Walked s x n m w → AreOthersEnded s x → n ≡ s.threads x → NoneStuck s x
+  pub none_stuck : (n : ℕ) (m w : Bool) → Walked s x n m w → AbsentHaveEnded s x → n ≡ s.threads x → NoneStuck s x
   none_stuck n m w h others is t stuck = everywhere TheVariants.Stuck n (λ e. cc) others is h.stuck t (stuck_told (s.next x t) stuck)
 
   pub some_moves : (n : ℕ) (m w : Bool) → Walked s x n m w → m ≡ true → SomeMoves s x
   some_moves n m w h is = let found = h.moving.some is in (found.0, moves_told (s.next x found.0) (sym found.1))
 
-  pub none_moves : (n : ℕ) (m w : Bool) → Walked s x n m w → m ≡ false → AreOthersEnded s x → n ≡ s.threads x → NoneMoves s x
+  pub none_moves : (n : ℕ) (m w : Bool) → Walked s x n m w → m ≡ false → AbsentHaveEnded s x → n ≡ s.threads x → NoneMoves s x
   none_moves n m w h unseen_moves others is t moves = everywhere TheVariants.Moves n (λ e. cc) others is (h.moving.none unseen_moves) t (told_moves (s.next x t) moves)
 
   pub some_waits : (n : ℕ) (m w : Bool) → Walked s x n m w → w ≡ true → (t : ℕ) × (s.next x t ≡ Waits)
@@ -125,14 +125,14 @@ module _ {Event Place S : Type 0} (s : System Event Place S) (x : S) where
   must_have_ended Ended stuck moves waits = refl
   must_have_ended Stuck stuck moves waits = absurd (stuck refl)
 
-  pub all_ended : (n : ℕ) (m w : Bool) → Walked s x n m w → m ≡ false → w ≡ false → AreOthersEnded s x → n ≡ s.threads x → (t : ℕ) → s.next x t ≡ Ended
+  pub all_ended : (n : ℕ) (m w : Bool) → Walked s x n m w → m ≡ false → w ≡ false → AbsentHaveEnded s x → n ≡ s.threads x → (t : ℕ) → s.next x t ≡ Ended
   all_ended n m w h no_moves no_waits others is t = must_have_ended (s.next x t)
       (everywhere TheVariants.Stuck n (λ e. cc) others is h.stuck t)
       (everywhere TheVariants.Moves n (λ e. cc) others is (h.moving.none no_moves) t)
       (everywhere TheVariants.Waits n (λ e. cc) others is (h.waiting.none no_waits) t)
 
   -- no thread below the first that is stuck is stuck
-  pub none_below : (k : ℕ) (m w : Bool) → Walked s x k m w → AreOthersEnded s x → (u : ℕ) → u < k + 1 → IsStuck (s.next x u) → ⊥
+  pub none_below : (k : ℕ) (m w : Bool) → Walked s x k m w → AbsentHaveEnded s x → (u : ℕ) → u < k + 1 → IsStuck (s.next x u) → ⊥
   none_below k m w h others u lt stuck =
       let told = stuck_told (s.next x u) stuck in
       ⊎_elim

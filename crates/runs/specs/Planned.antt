@@ -1,7 +1,7 @@
 -- Which schedules a plan and a budget allow.
-use Rattle.std.specs.Prelude.{◌≡◌, ℕ, zero, suc, ◌+◌, ◌-◌, ◌%◌, ◌<◌, ◌≤◌, min, List, [], ◌∷◌, ◌⊎◌}
+use Rattle.std.specs.Prelude.{◌≡◌, ℕ, zero, suc, ◌+◌, ◌-◌, ◌%◌, ◌<◌, ◌≤◌, min, List, [], ◌∷◌, ◌++◌, ◌⊎◌, Option, None, Some}
 use Rattle.runs.specs.declared.turn.Turn.{Turn}
-use Rattle.runs.specs.System.{Next, Goes, Waits, Ended, Stuck, System, Reached, tries, start}
+use Rattle.runs.specs.System.{Next, Goes, Waits, Ended, Stuck, System, Reached, tries, start, IsAbsent}
 
 -- it can move
 abbrev pub Moves : {S : Type 0} → Next S → Type 0
@@ -10,6 +10,7 @@ Moves Waits = ⊥
 Moves Ended = ⊥
 Moves Stuck = ⊥
 
+-- it stands at a stuck step
 abbrev pub IsStuck : {S : Type 0} → Next S → Type 0
 IsStuck (Goes after) = ⊥
 IsStuck Waits = ⊥
@@ -23,15 +24,19 @@ Rests Waits = Unit {0}
 Rests Ended = Unit {0}
 Rests Stuck = ⊥
 
+-- no thread can move
+abbrev pub NoneMoves : {Event Place S : Type 0} → System Event Place S → S → Type 0
+NoneMoves s x = (t : ℕ) → Moves (s.next x t) → ⊥
+
 -- the budget is reached, or no thread can move
 abbrev pub IsOver : {Event Place S : Type 0} → System Event Place S → ℕ → S → Type 0
-IsOver s left x = (left ≡ 0) ⊎ ((t : ℕ) → Moves (s.next x t) → ⊥)
+IsOver s left x = (left ≡ 0) ⊎ NoneMoves s x
 
 -- the d-th of n threads after thread t, in a circle
 abbrev pub in_circle : ℕ → ℕ → ℕ → ℕ
 in_circle n t d = (t + d - 1) % n + 1
 
--- u comes next after t: those between rest
+-- u comes next after t in the circle of threads: those between rest, and u doesn't
 abbrev pub ComesNext : {Event Place S : Type 0} → System Event Place S → S → ℕ → ℕ → Type 0
 ComesNext s x t u =
     (d : ℕ)
@@ -39,59 +44,82 @@ ComesNext s x t u =
     × (d ≤ s.threads x)
     × (u ≡ in_circle (s.threads x) t d)
     × ((e : ℕ) → 1 ≤ e → e < d → Rests (s.next x (in_circle (s.threads x) t e)))
+    × (Rests (s.next x u) → ⊥)
 
--- from r, after a turn of the thread `last`, with so many moves left
-abbrev pub IsRoundRobin : {Event Place S : Type 0} → System Event Place S → ℕ → ℕ → ℕ → Reached S → List Turn → Type 0
-IsRoundRobin s quantum left last r [] =
-    IsOver s left r.state ⊎ ((u : ℕ) × ComesNext s r.state last u × IsStuck (s.next r.state u))
-IsRoundRobin s quantum left last r (turn ∷ rest) =
-    let r' = tries s turn.thread turn.count r in
-    ComesNext s r.state last turn.thread
-    × (0 < turn.count)
-    × (turn.count ≤ left)
-    × (r'.moves turn.thread ≡ r.moves turn.thread + turn.count)
-    ×
-    ((turn.count ≡ quantum) ⊎ ((turn.count < quantum) × ((turn.count ≡ left) ⊎ (Moves (s.next r'.state turn.thread) → ⊥))))
-    × IsRoundRobin s quantum (left - turn.count) turn.thread r' rest
+-- the moves that a turn makes within the budget
+abbrev pub cut : {Event Place S : Type 0} → System Event Place S → ℕ → Reached S → Turn → ℕ
+cut s left r turn = min left ((tries s turn.thread turn.count r).moves turn.thread - r.moves turn.thread)
 
--- a turn of n moves stands first, or none where n is 0
-abbrev pub Begins : ℕ → ℕ → List Turn → (List Turn → Type 0) → Type 0
-Begins t zero schedule Rest = Rest schedule
-Begins t (suc n) [] Rest = ⊥
-Begins t (suc n) (turn ∷ rest) Rest = (turn ≡ record { thread = t; count = suc n }) × Rest rest
+-- a turn that has made n moves isn't over, and its thread stands at a stuck step
+abbrev pub IsHalted : {Event Place S : Type 0} → System Event Place S → Turn → ℕ → S → Type 0
+IsHalted s turn n x = (n < turn.count) × IsStuck (s.next x turn.thread)
 
--- the given turns that are reached, each cut to the moves that it makes, and then a round robin
-abbrev pub IsGiven : {Event Place S : Type 0} → System Event Place S → ℕ → Reached S → List Turn → List Turn → Type 0
-IsGiven s left r [] schedule = IsRoundRobin s 50 left 0 r schedule
-IsGiven s left r (turn ∷ more) schedule =
-    let n = min left ((tries s turn.thread turn.count r).moves turn.thread - r.moves turn.thread) in
-    let r' = tries s turn.thread n r in
-    let halts = (n < turn.count) × IsStuck (s.next r'.state turn.thread) in
-    ((IsOver s left r.state ⊎ (s.threads r.state < turn.thread) ⊎ (turn.thread ≡ 0)) × (schedule ≡ []))
-    ⊎ ((IsOver s left r.state → ⊥)
-    × (1 ≤ turn.thread)
-    × (turn.thread ≤ s.threads r.state)
-    × Begins turn.thread n schedule
-    (λ rest. (halts × (rest ≡ [])) ⊎ ((halts → ⊥) × IsGiven s (left - n) r' more rest)))
+-- what a schedule keeps of a turn of n moves
+abbrev pub kept : ℕ → ℕ → List Turn
+kept t zero = []
+kept t (suc n) = record { thread = t; count = suc n } ∷ []
 
 -- how a run chooses its turns: round robin with a quantum, or turns that are given and then round robin with quantum 50
 pub data Plan : Type 0 where
   RoundRobin : (quantum : ℕ) → Plan
   Given : (turns : List Turn) → Plan
 
+-- what is left of a plan: the given turn with this index and those behind it, or a round robin whose last turn was of
+-- the thread `last`, or that begins, where that is 0
+pub data Ahead : Type 0 where
+  GivenTurn : (index : ℕ) (turn : Turn) (more : List Turn) → Ahead
+  Round : (quantum last : ℕ) → Ahead
+
+-- given turns, the first of which has this index
+abbrev pub given_from : ℕ → List Turn → Ahead
+given_from index [] = Round 50 0
+given_from index (turn ∷ more) = GivenTurn index turn more
+
+-- what is ahead before any turn
+abbrev pub at_first : Plan → Ahead
+at_first (RoundRobin quantum) = Round quantum 0
+at_first (Given turns) = given_from 0 turns
+
+-- in the state x this turn is next, and this is left of the plan behind it
+abbrev pub IsNext : {Event Place S : Type 0} → System Event Place S → S → Ahead → Turn → Ahead → Type 0
+IsNext s x (GivenTurn index given more) turn rest = (turn ≡ given) × (rest ≡ given_from (suc index) more)
+IsNext s x (Round quantum last) turn rest =
+    ComesNext s x last turn.thread × (turn.count ≡ quantum) × (rest ≡ Round quantum turn.thread)
+
+-- a turn is taken, and makes n moves within the budget: the run isn't over, and its thread is there
+pub record IsTaken {Event Place S : Type 0} (s : System Event Place S) (left : ℕ) (r : Reached S) (turn : Turn) (n : ℕ) : Type 0 where
+  pub going : IsOver s left r.state → ⊥
+  pub there : IsAbsent s r.state turn.thread → ⊥
+  pub moves : cut s left r turn ≡ n
+
+-- from r, with so many moves left, what is left of a plan allows this schedule. It ends before a given turn whose thread
+-- isn't there where that turn's index is told
+pub data Allows {Event Place S : Type 0} (s : System Event Place S) : ℕ → Ahead → Reached S → List Turn → Option ℕ → Type 0 where
+  -- the run is over
+  Over : {left : ℕ} {ahead : Ahead} {r : Reached S} → IsOver s left r.state → Allows s left ahead r [] None
+  -- the thread of the next given turn isn't there
+  Absent : {left : ℕ} {r : Reached S} (index : ℕ) (turn : Turn) (more : List Turn) → (IsOver s left r.state → ⊥) →
+      IsAbsent s r.state turn.thread → Allows s left (GivenTurn index turn more) r [] (Some index)
+  -- the thread whose turn it is stands at a stuck step
+  Halted : {left : ℕ} {ahead : Ahead} {r : Reached S} (turn : Turn) (rest : Ahead) (n : ℕ) → IsNext s r.state ahead turn rest →
+      IsTaken s left r turn n → IsHalted s turn n (tries s turn.thread n r).state → Allows s left ahead r (kept turn.thread n) None
+  -- a turn, and then
+  Then : {left : ℕ} {ahead : Ahead} {r : Reached S} (turn : Turn) (rest : Ahead) (n : ℕ) (schedule : List Turn) (bad : Option ℕ) →
+      IsNext s r.state ahead turn rest → IsTaken s left r turn n → (IsHalted s turn n (tries s turn.thread n r).state → ⊥) →
+      Allows s (left - n) rest (tries s turn.thread n r) schedule bad → Allows s left ahead r (kept turn.thread n ++ schedule) bad
+
+-- the plan and the budget allow this schedule, from the first state
+abbrev pub Planned : {Event Place S : Type 0} → System Event Place S → Plan → ℕ → List Turn → Type 0
+Planned s plan budget schedule = (bad : Option ℕ) × Allows s budget (at_first plan) (start s) schedule bad
+
+-- the given turn with this index is reached, and its thread isn't there
+abbrev pub IsBadTurn : {Event Place S : Type 0} → System Event Place S → List Turn → ℕ → ℕ → Type 0
+IsBadTurn s turns budget index = (schedule : List Turn) × Allows s budget (at_first (Given turns)) (start s) schedule (Some index)
+
 -- a round robin has a positive quantum
 abbrev pub HasQuantum : Plan → Type 0
 HasQuantum (RoundRobin quantum) = 1 ≤ quantum
 HasQuantum (Given turns) = Unit {0}
-
--- a thread that can move has a number of a thread that is there
-abbrev pub MoversAreThere : {Event Place S : Type 0} → System Event Place S → S → Type 0
-MoversAreThere s x = (t : ℕ) → Moves (s.next x t) → (1 ≤ t) × (t ≤ s.threads x)
-
--- the plan and the budget allow this schedule, from the first state
-abbrev pub Planned : {Event Place S : Type 0} → System Event Place S → Plan → ℕ → List Turn → Type 0
-Planned s (RoundRobin quantum) budget schedule = IsRoundRobin s quantum budget 0 (start s) schedule
-Planned s (Given turns) budget schedule = IsGiven s budget (start s) turns schedule
 
 -- the moves of all turns
 abbrev pub total : List Turn → ℕ

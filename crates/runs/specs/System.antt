@@ -1,5 +1,5 @@
 -- Systems of threads, and their runs over lists of turns.
-use Rattle.std.specs.Prelude.{ℕ, zero, suc, ◌+◌, List, [], ◌∷◌, nat_eq, if◌then◌else◌, Bool}
+use Rattle.std.specs.Prelude.{◌≡◌, ℕ, zero, suc, ◌+◌, ◌<◌, ◌⊎◌, List, [], ◌∷◌, nat_eq, if◌then◌else◌, Bool}
 use Rattle.runs.specs.declared.turn.Turn.{Turn}
 
 -- what a thread does next
@@ -9,7 +9,7 @@ pub data Next (S : Type 0) : Type 0 where
   Ended : Next S
   Stuck : Next S
 
--- a system of threads whose states are S. A thread that isn't there has ended
+-- a system of threads whose states are S
 pub record System (Event Place S : Type 0) : Type 0 where
   pub first : S
   pub next : S → ℕ → Next S
@@ -24,6 +24,18 @@ pub record System (Event Place S : Type 0) : Type 0 where
   -- `opens x u t`: whether u is about to open the latch that t awaits
   pub opens : S → ℕ → ℕ → Bool
 
+-- this number is no thread's
+abbrev pub IsAbsent : {Event Place S : Type 0} → System Event Place S → S → ℕ → Type 0
+IsAbsent s x t = (t ≡ 0) ⊎ (s.threads x < t)
+
+-- a thread that isn't there has ended
+abbrev pub AbsentHaveEnded : {Event Place S : Type 0} → System Event Place S → S → Type 0
+AbsentHaveEnded s x = (t : ℕ) → IsAbsent s x t → s.next x t ≡ Ended
+
+-- f with x at t
+abbrev pub put : {X : Type 0} → ℕ → X → (ℕ → X) → ℕ → X
+put t x f u = if nat_eq u t then x else f u
+
 -- the state that a run has come to, the moves that each thread has made, and the initialisers entered and ended
 pub record Reached (S : Type 0) : Type 0 where
   pub state : S
@@ -32,7 +44,7 @@ pub record Reached (S : Type 0) : Type 0 where
 
 -- one more move of t
 abbrev pub one_more : ℕ → (ℕ → ℕ) → ℕ → ℕ
-one_more t moves u = if nat_eq u t then suc (moves u) else moves u
+one_more t moves = put t (suc (moves t)) moves
 
 -- what a try of t leaves, by what t does next
 abbrev pub moved : {S : Type 0} → Reached S → ℕ → ℕ → Next S → Reached S
@@ -62,6 +74,12 @@ start s = record { state = s.first; moves = λ t. 0; inits = 0 }
 -- what the turns lead to, from the first state
 abbrev pub reach : {Event Place S : Type 0} → System Event Place S → List Turn → Reached S
 reach s turns = run s turns (start s)
+
+-- some run comes to this state
+abbrev pub IsReached : {Event Place S : Type 0} → System Event Place S → S → Type 0
+IsReached s x = (turns : List Turn) × ((reach s turns).state ≡ x)
+
+-- For proofs only.
 
 -- P holds of the state that comes next, if one does
 abbrev pub KeptBy : {S : Type 0} → (S → Type 0) → Next S → Type 0

@@ -1,11 +1,10 @@
 -- What a try of a thread answers and leaves, by what the thread does next.
-use Rattle.std.specs.Prelude.{◌≡◌, ℕ, ◌<◌, ◌⊎◌}
-use Rattle.runs.specs.declared.ability.Ability.{Ability}
-use Rattle.runs.specs.declared.ability.Ability.TheVariants
-use Rattle.runs.specs.System.{Next, Goes, Waits, Ended, Stuck, System}
+use Rattle.runs.specs.declared.next_step.NextStep.{NextStep}
+use Rattle.runs.specs.declared.next_step.NextStep.TheVariants
+use Rattle.runs.specs.System.{Next, Goes, Waits, Ended, Stuck}
 
 -- what a thread can do
-abbrev pub able : {S : Type 0} → Next S → Ability
+abbrev pub able : {S : Type 0} → Next S → NextStep
 able (Goes after) = TheVariants.Moves
 able Waits = TheVariants.Waits
 able Ended = TheVariants.Ended
@@ -17,7 +16,3 @@ after x (Goes y) = y
 after x Waits = x
 after x Ended = x
 after x Stuck = x
-
--- each number that is no thread's counts as ended
-abbrev pub AreOthersEnded : {Event Place S : Type 0} → System Event Place S → S → Type 0
-AreOthersEnded s x = (t : ℕ) → (t ≡ 0) ⊎ (s.threads x < t) → s.next x t ≡ Ended

@@ -1,7 +1,7 @@
 -- Who waits for whom, as a table whose entry t - 1 tells whom thread t waits for, if any.
-use Rattle.std.specs.Prelude.{◌≡◌, ℕ, zero, suc, ◌≤◌, List, [], ◌∷◌, Option, None, Some, nat_eq, slice_get}
-use Rattle.std.specs.List.{AllByRecursion, IsDistinct}
-use Rattle.runs.specs.Waiting.{Chain}
+use Rattle.std.specs.Prelude.{◌≡◌, ℕ, zero, suc, List, [], ◌∷◌, Option, None, Some, slice_get, ◌↔◌}
+use Rattle.runs.specs.System.{System}
+use Rattle.runs.specs.Waiting.{WaitsFor, IsCycle, IsLeastCycle}
 
 -- what an entry tells
 abbrev pub told : Option (Option ℕ) → Option ℕ
@@ -17,20 +17,21 @@ awaited_by table (suc i) = told (slice_get table i)
 abbrev pub IsAwaited : List (Option ℕ) → ℕ → ℕ → Type 0
 IsAwaited table t u = awaited_by table t ≡ Some u
 
--- one or more distinct threads, each of which waits for the next, and the last for the first
-abbrev pub IsCycle : List (Option ℕ) → List ℕ → Type 0
-IsCycle table [] = ⊥
-IsCycle table (t ∷ ts) = IsDistinct nat_eq (t ∷ ts) × Chain (IsAwaited table) t ts t
+-- the table tells who waits for whom in the state x
+abbrev pub Tells : {Event Place S : Type 0} → System Event Place S → S → List (Option ℕ) → Type 0
+Tells s x table = (t u : ℕ) → WaitsFor s x t u ↔ IsAwaited table t u
 
+-- no threads wait in a cycle
 abbrev pub NoCycle : List (Option ℕ) → Type 0
-NoCycle table = (ts : List ℕ) → IsCycle table ts → ⊥
+NoCycle table = (ts : List ℕ) → IsCycle (IsAwaited table) ts → ⊥
 
--- the cycle that is reported: it begins with the least thread of any cycle
+-- the cycle that is reported: it holds the least thread of any cycle, and begins with it
 abbrev pub IsReported : List (Option ℕ) → List ℕ → Type 0
-IsReported table [] = ⊥
-IsReported table (t ∷ ts) = IsCycle table (t ∷ ts) × ((us : List ℕ) → IsCycle table us → AllByRecursion (λ u. t ≤ u) us)
+IsReported table ts = IsLeastCycle (IsAwaited table) ts
+
+-- For proofs only.
 
 -- the cycle from this thread on
 abbrev pub IsCycleFrom : List (Option ℕ) → ℕ → List ℕ → Type 0
 IsCycleFrom table t [] = ⊥
-IsCycleFrom table t (u ∷ us) = (u ≡ t) × IsCycle table (u ∷ us)
+IsCycleFrom table t (u ∷ us) = (u ≡ t) × IsCycle (IsAwaited table) (u ∷ us)

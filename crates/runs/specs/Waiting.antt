@@ -38,15 +38,23 @@ abbrev pub Chain : (ℕ → ℕ → Type 0) → ℕ → List ℕ → ℕ → Typ
 Chain R t [] end = R t end
 Chain R t (u ∷ us) end = R t u × Chain R u us end
 
--- one or more distinct threads, each of which waits for the next, and the last for the first
+-- one or more distinct numbers, each of which R leads to the next, and the last to the first
+abbrev pub IsCycle : (ℕ → ℕ → Type 0) → List ℕ → Type 0
+IsCycle R [] = ⊥
+IsCycle R (t ∷ ts) = IsDistinct nat_eq (t ∷ ts) × Chain R t ts t
+
+-- the cycle of R that holds the least number of any cycle, and begins with it
+abbrev pub IsLeastCycle : (ℕ → ℕ → Type 0) → List ℕ → Type 0
+IsLeastCycle R [] = ⊥
+IsLeastCycle R (t ∷ ts) = IsCycle R (t ∷ ts) × ((us : List ℕ) → IsCycle R us → All (λ u. t ≤ u) us)
+
+-- threads, each of which waits for the next, and the last for the first
 abbrev pub Cycle : {Event Place S : Type 0} → System Event Place S → S → List ℕ → Type 0
-Cycle s x [] = ⊥
-Cycle s x (t ∷ ts) = IsDistinct nat_eq (t ∷ ts) × Chain (WaitsFor s x) t ts t
+Cycle s x ts = IsCycle (WaitsFor s x) ts
 
 -- the cycle that is reported: it holds the least thread of any cycle, and begins with it
 abbrev pub LeastCycle : {Event Place S : Type 0} → System Event Place S → S → List ℕ → Type 0
-LeastCycle s x [] = ⊥
-LeastCycle s x (t ∷ ts) = Cycle s x (t ∷ ts) × ((us : List ℕ) → Cycle s x us → All (λ u. t ≤ u) us)
+LeastCycle s x ts = IsLeastCycle (WaitsFor s x) ts
 
 -- where every unfinished thread waits and there is one, some wait in a cycle
 abbrev pub CyclesWhereAllWait : {Event Place S : Type 0} → System Event Place S → S → Type 0
@@ -59,7 +67,3 @@ HasCycles s = (turns : List Turn) → CyclesWhereAllWait s (reach s turns).state
 -- where every unfinished thread waits, each waits for an unfinished one
 abbrev pub WaitsForUnfinished : {Event Place S : Type 0} → System Event Place S → S → Type 0
 WaitsForUnfinished s x = AllWait s x → (t : ℕ) → s.next x t ≢ Ended → (u : ℕ) × WaitsFor s x t u × (s.next x u ≢ Ended)
-
--- a thread that hasn't ended has a number of a thread that is there
-abbrev pub UnfinishedAreThere : {Event Place S : Type 0} → System Event Place S → S → Type 0
-UnfinishedAreThere s x = (t : ℕ) → s.next x t ≢ Ended → t ≤ s.threads x

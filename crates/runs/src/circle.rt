@@ -1,35 +1,30 @@
 //! Whose turn is next in a round robin.
 
-ghost use Rattle.runs.specs.Circle.{ComesAs};
+ghost use Rattle.std.specs.Prelude.{MatchOption};
+ghost use Rattle.runs.specs.Planned.{ComesNext, NoneMoves};
+ghost use Rattle.runs.specs.System.{AbsentHaveEnded};
 
-use crate::ability::Ability;
-use crate::threaded::Threaded;
+use crate::next_step::NextStep;
+use crate::standing::Standing;
 
-/// The next thread in the circle that doesn't rest: it can move, or is stuck, or there is none.
-#[derive(Clone, Copy)]
-pub enum Comes {
-    Mover { thread: u32 },
-    Stuck { thread: u32 },
-    Nobody,
-}
-
-/// Who comes next after the thread `last`, or first of all where that is 0.
-pub fn next_after<M: Threaded>(machine: &M, last: u32) -> Comes
-    ensures { ComesAs (M.system machine.now) (M.state machine.now) last result }
+/// The first thread in the circle after `last` that neither waits nor has ended, from thread 1 on where that is 0.
+pub fn next_after<M: Standing>(machine: &M, last: u32) -> Option<u32>
+    ensures next { MatchOption result (NoneMoves (M.system machine.now) (M.state machine.now))
+        (λ thread. ComesNext (M.system machine.now) (M.state machine.now) last thread) }
+    ensures others { AbsentHaveEnded (M.system machine.now) (M.state machine.now) }
 {
     let threads = machine.threads();
     if threads == 0 {
-        return Comes::Nobody;
+        return None;
     }
     let mut before = last % threads;
     for _passed in 0..threads {
         let thread = before + 1;
         match machine.what_next(thread) {
-            Ability::Moves => return Comes::Mover { thread },
-            Ability::Stuck => return Comes::Stuck { thread },
-            Ability::Waits | Ability::Ended => {}
+            NextStep::Moves | NextStep::Stuck => return Some(thread),
+            NextStep::Waits | NextStep::Ended => {}
         }
         before = if thread == threads { 0 } else { thread };
     }
-    Comes::Nobody
+    None
 }

@@ -11,6 +11,6 @@ pub enum Ending {
     Budget,
     /// The least thread that stands at a stuck step.
     Stuck { thread: u32 },
-    /// The given turn that names a thread that isn't there.
-    BadTurn { index: usize },
+    /// The given turn with this index names a thread that isn't there.
+    BadTurn { index: u32 },
 }

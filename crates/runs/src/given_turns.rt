@@ -2,17 +2,18 @@
 
 ghost use Rattle.std.specs.Prelude.{◌≡◌, ◌++◌, List, IfOk};
 ghost use Rattle.runs.specs.declared.turn.Turn.{Turn};
-ghost use Rattle.runs.specs.Cut.{GivenMade};
+ghost use Rattle.runs.specs.Course.{GivenMade};
 
-use crate::given_turn::{TurnEnd, given_turn};
-use crate::no_memory::NoMemory;
+use crate::NoMemory;
+use crate::mover::mover;
+use crate::taking::take_turn;
 use crate::threaded::Threaded;
 use crate::turn::Turn;
 use sqlite_items::Items;
 use std::alloc::Global;
 
 /// How given turns end: they are used up with so many moves left, the run stops before that, or the turn
-/// with this number names a thread that isn't there.
+/// with this index names a thread that isn't there.
 #[derive(Clone, Copy)]
 pub enum GivenEnd {
     Used { left: u32 },
@@ -35,12 +36,21 @@ pub fn given_turns<M: Threaded>(
     let mut left = budget;
     let mut likely = 0;
     for (index, turn) in turns.iter().enumerate() {
-        match given_turn(alloc, machine, *turn, left, &mut likely, schedule)? {
-            TurnEnd::GoesOn { made } => left -= made,
-            TurnEnd::Halted { .. } => return Ok(GivenEnd::Stopped),
-            TurnEnd::Over => return Ok(GivenEnd::Stopped),
-            TurnEnd::Missing => return Ok(GivenEnd::BadTurn { index }),
+        if left == 0 {
+            return Ok(GivenEnd::Stopped);
         }
+        match mover(machine, turn.thread, likely) {
+            Some(found) => likely = found,
+            None => return Ok(GivenEnd::Stopped),
+        }
+        if turn.thread == 0 || turn.thread > machine.threads() {
+            return Ok(GivenEnd::BadTurn { index });
+        }
+        let taken = take_turn(alloc, machine, *turn, left, schedule)?;
+        if taken.halted {
+            return Ok(GivenEnd::Stopped);
+        }
+        left -= taken.made;
     }
     Ok(GivenEnd::Used { left })
 }

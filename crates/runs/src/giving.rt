@@ -5,10 +5,10 @@ ghost use Rattle.runs.specs.Ends.{GivenEndsAs};
 ghost use Rattle.runs.specs.Planned.{Given, Planned, total};
 ghost use Rattle.runs.specs.System.{reach};
 
+use crate::NoMemory;
 use crate::ending::Ending;
 use crate::given_turns::{GivenEnd, given_turns};
 use crate::judging::ended;
-use crate::no_memory::NoMemory;
 use crate::ran::Ran;
 use crate::rounds::go_round;
 use crate::threaded::Threaded;
@@ -20,7 +20,7 @@ use std::alloc::Global;
 const QUANTUM: u32 = 50;
 
 /// Runs a machine from its first state over given turns, each cut to the moves that it makes, and then by
-/// round robin, for at most `budget` moves.
+/// round robin, for at most `budget` moves. A bad turn whose index has more than 32 bits is answered as want of memory.
 pub fn given<M: Threaded + Drop>(
     alloc: Global,
     machine: M,
@@ -53,10 +53,15 @@ pub fn given<M: Threaded + Drop>(
                 ending,
             })
         }
-        GivenEnd::BadTurn { index } => Ok(Ran {
-            machine,
-            schedule,
-            ending: Ending::BadTurn { index },
-        }),
+        GivenEnd::BadTurn { index } => {
+            let Ok(index) = u32::try_from(index) else {
+                return Err(NoMemory);
+            };
+            Ok(Ran {
+                machine,
+                schedule,
+                ending: Ending::BadTurn { index },
+            })
+        }
     }
 }

@@ -1,14 +1,16 @@
-//! The laws of runs and refinement. Each function has an empty body: its contract is the law.
+//! The laws of refinement. Each function has an empty body: its contract is the law.
 
-ghost use Rattle.std.specs.Prelude.{List, ◌≡◌, ◌++◌, ℕ, ◌+◌, ◌*◌, ◌^◌, ◌≤◌, ◌⊎◌, Bool};
+ghost use Rattle.std.specs.Prelude.{◌≡◌, ◌≢◌, ℕ, ◌+◌, ◌*◌, ◌^◌, ◌≤◌, Bool, List};
 ghost use Rattle.runs.specs.declared.turn.Turn.{Turn};
-ghost use Rattle.runs.specs.Planned.{AreWhole, HasQuantum, MoversAreThere, Plan, Planned, total};
+ghost use Rattle.runs.specs.Matches.{Matches, MatchesByParts, Parts};
+ghost use Rattle.runs.specs.Quiet.{MatchesQuietly};
 ghost use Rattle.runs.specs.Refines.{Agree, Implements, Refines};
-ghost use Rattle.runs.specs.Simulates.{AgreePlainly, Pairs, Simulates, SimulatesThere, ThreadAgrees};
-ghost use Rattle.runs.specs.System.{Goes, reach, Reached, run, start, System, tries};
-ghost use Rattle.runs.specs.Waiting.{Cycle, DoesWait, HasCycles, LeastCycle, UnfinishedAreThere, WaitsForUnfinished};
+ghost use Rattle.runs.specs.SharedHeap.{HeapState, SharedHeap, system_of};
+ghost use Rattle.runs.specs.Simulates.{AgreePlainly, AreReached, Pairs, Simulates, ThreadAgrees};
+ghost use Rattle.runs.specs.System.{reach, Stuck, System};
+ghost use Rattle.runs.specs.Waiting.{AllWait, HasCycles, LeastCycle};
 
-/// Refinements compose, and a larger bound serves too.
+/// Refinements compose, a larger bound serves too, and a system that is never stuck refines itself.
 pub fn composition<E, P, A, B, C>()
     ensures composes { (low : System E P A) (mid : System E P B) (up : System E P C) (b c : ℕ)
         → 1 ≤ b → 1 ≤ c → Refines low mid b → Refines mid up c → Refines low up (2 * b * c) }
@@ -16,6 +18,8 @@ pub fn composition<E, P, A, B, C>()
     ensures always { (low : System E P A) (mid : System E P B) (up : System E P C) (b c : ℕ)
         → Refines low mid b → Refines mid up c → Refines low up (b * c + b + c) }
     ensures more { (low : System E P A) (up : System E P B) (b c : ℕ) → b ≤ c → Refines low up b → Refines low up c }
+    ensures itself { (s : System E P A)
+        → ((turns : List Turn) (t : ℕ) → s.next (reach s turns).state t ≢ Stuck) → Refines s s 1 }
 {}
 
 /// Without `1 ≤ b` refinements don't compose with the bound `2 * b * c`.
@@ -24,65 +28,53 @@ pub fn bound_is_needed()
         → Refines low mid b → Refines mid up c → Refines low up (2 * b * c)) → ⊥ }
 {}
 
-/// A simulation by single steps gives a refinement.
+/// A simulation by single steps gives a refinement. A thread that a step begins may make moves at once.
 pub fn simulation<E, P, A, B, W>()
-    ensures steps { (low : System E P A) (up : System E P B) (pairs : Pairs A B W) (c : ℕ)
-        → Simulates low up pairs c → Refines low up (c + 1) }
-    // with ranks that are told only of threads that are there
-    ensures there { (low : System E P A) (up : System E P B) (pairs : Pairs A B W) (there : A → ℕ → Bool) (c : ℕ)
-        → SimulatesThere low up pairs there c → Refines low up (c + 1) }
-    // the shorter form of agreement
-    ensures short { (low : System E P A) (up : System E P B) (x : A) (y : B)
-        → AgreePlainly low up x y → Agree low up x y }
-    // agreement shown thread by thread
+    ensures refines { (low : System E P A) (up : System E P B) (pairs : Pairs A B W) (there : A → ℕ → Bool) (c : ℕ)
+        → Simulates low up pairs there c → Refines low up (c + 1) }
+    // each state that the lower system comes to is that of a pair
+    ensures pairs { (low : System E P A) (up : System E P B) (pairs : Pairs A B W) (there : A → ℕ → Bool) (c : ℕ)
+        → Simulates low up pairs there c → (turns : List Turn)
+        → (w : W) × AreReached low up pairs w × ((reach low turns).state ≡ pairs.low w) }
+{}
+
+/// One obligation a thread gives a simulation, and so a refinement.
+pub fn matching<E, P, A, B, W>()
+    ensures simulates { (low : System E P A) (up : System E P B) (pairs : Pairs A B W) (there : A → ℕ → Bool) (c : ℕ)
+        → Matches low up pairs there c → Simulates low up pairs there c }
+    ensures refines { (low : System E P A) (up : System E P B) (pairs : Pairs A B W) (there : A → ℕ → Bool) (c : ℕ)
+        → Matches low up pairs there c → Refines low up (c + 1) }
+{}
+
+/// So do threads that are related by themselves, and what they share.
+pub fn matching_by_parts<E, P, A, B, X, Y, G, H>()
+    ensures { (low : System E P A) (up : System E P B) (parts : Parts A B X Y G H) (there : A → ℕ → Bool) (c : ℕ)
+        → MatchesByParts low up parts there c → Refines low up (c + 1) }
+{}
+
+/// Where threads share a heap, and a thread between two main positions is related by the one that its own quiet
+/// moves lead to, one obligation a thread at main positions is enough.
+pub fn quiet_moves<E, P, H, T, B, W>()
+    ensures { (m : SharedHeap E P H T) (up : System E P B) (pairs : Pairs (HeapState H T) B W) (q c : ℕ)
+        → MatchesQuietly m up pairs q c → Refines (system_of m) up (q + c + 1) }
+{}
+
+/// What shows that states agree, and what follows from it.
+pub fn agreement<E, P, A, B>()
+    // the shorter form
+    ensures plainly { (low : System E P A) (up : System E P B) (x : A) (y : B) → AgreePlainly low up x y → Agree low up x y }
     ensures by_thread { (low : System E P A) (up : System E P B) (x : A) (y : B)
         → low.trace x ≡ up.trace y → low.threads x ≡ up.threads y
         → ((t : ℕ) → ThreadAgrees low up x y t (low.next x t)) → Agree low up x y }
-{}
-
-/// What the first state has and each step keeps holds of every state that a run comes to. `W` is the
-/// type of the states that have it, each with what shows it.
-pub fn invariants<E, P, A, W>()
-    ensures { (s : System E P A) (state : W → A) (first : W) → state first ≡ s.first
-        → ((w : W) (t : ℕ) (x : A) → s.next (state w) t ≡ Goes x → (v : W) × (state v ≡ x))
-        → (turns : List Turn) → (w : W) × (state w ≡ (reach s turns).state) }
-{}
-
-/// Where each thread that waits waits for an unfinished one, some wait in a cycle.
-pub fn cycles<E, P, A>()
-    ensures { (s : System E P A) → ((turns : List Turn) → UnfinishedAreThere s (reach s turns).state)
-        → ((turns : List Turn) → WaitsForUnfinished s (reach s turns).state) → HasCycles s }
-{}
-
-/// A state has at most one least cycle, and where finitely many threads wait it has one, or no cycle at all.
-pub fn least_cycle<E, P, A>()
-    ensures determined { (s : System E P A) (x : A) (one other : List ℕ)
-        → LeastCycle s x one → LeastCycle s x other → one ≡ other }
-    ensures decided { (s : System E P A) (x : A) (n : ℕ) → ((t : ℕ) → DoesWait s x t → t ≤ n)
-        → ((ts : List ℕ) × LeastCycle s x ts) ⊎ ((ts : List ℕ) → Cycle s x ts → ⊥) }
+    ensures all_wait { (low : System E P A) (up : System E P B) (x : A) (y : B)
+        → Agree low up x y → AllWait low x → AllWait up y }
+    // what is reported below is the cycle above
+    ensures least_cycle { (low : System E P A) (up : System E P B) (x : A) (y : B)
+        → Agree low up x y → AllWait low x → (ts : List ℕ) → LeastCycle low x ts → LeastCycle up y ts }
 {}
 
 /// What refines a system with the law of cycles implements it.
 pub fn implementation<E, P, A, B>()
     ensures { (low : System E P A) (up : System E P B) (b : ℕ)
         → b ≤ 2 ^ 56 → Refines low up b → HasCycles up → Implements low up }
-{}
-
-/// A run over joined lists of turns goes on from where the first list ends, and a turn can be split in two.
-pub fn replay<E, P, A>()
-    ensures joined { (s : System E P A) (xs ys : List Turn) → reach s (xs ++ ys) ≡ run s ys (reach s xs) }
-    ensures split { (s : System E P A) (t m n : ℕ) (r : Reached A) → tries s t (m + n) r ≡ tries s t n (tries s t m r) }
-{}
-
-/// A planned schedule keeps its budget, each of its turns has a move and makes all its moves, and the plan
-/// and the budget allow no other. Where each thread that can move is there, every plan with a positive
-/// quantum has a schedule, whatever the budget.
-pub fn plans<E, P, A>()
-    ensures within { (s : System E P A) (plan : Plan) (budget : ℕ) (schedule : List Turn)
-        → Planned s plan budget schedule → (total schedule ≤ budget) × AreWhole s (start s) schedule }
-    ensures determined { (s : System E P A) (plan : Plan) (budget : ℕ) (one other : List Turn)
-        → Planned s plan budget one → Planned s plan budget other → one ≡ other }
-    ensures scheduled { (s : System E P A) (plan : Plan) (budget : ℕ) → HasQuantum plan
-        → ((turns : List Turn) → MoversAreThere s (reach s turns).state)
-        → (schedule : List Turn) × Planned s plan budget schedule }
 {}

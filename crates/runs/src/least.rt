@@ -3,8 +3,8 @@
 ghost use Rattle.std.specs.Prelude.{◌≡◌, ◌+◌, ◌<◌, length, replicate, IfOk, MatchOption};
 ghost use Rattle.runs.specs.Walks.{IsCircuit, IsLeastFrom, IsLeastOfAll, IsLesser, NoneReturns};
 
-use crate::no_memory::NoMemory;
-use crate::walk::{Circuit, awaited, meet};
+use crate::NoMemory;
+use crate::walk::{Circuit, awaited_by, meet};
 use std::alloc::Global;
 
 /// The same circuit from its least thread on.
@@ -19,7 +19,7 @@ fn from_least(table: &[Option<u32>], circuit: Circuit) -> Circuit
         if thread < least {
             least = thread;
         }
-        if let Some(next) = awaited(table, thread as usize) {
+        if let Some(next) = awaited_by(table, thread as usize) {
             thread = next;
         }
     }

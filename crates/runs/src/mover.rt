@@ -1,24 +1,23 @@
 //! Whether a run is over.
 
 ghost use Rattle.std.specs.Prelude.{◌↔◌, MatchOption, IsTrue};
-ghost use Rattle.runs.specs.Ends.{NoneMoves};
-ghost use Rattle.runs.specs.Planned.{Moves};
+ghost use Rattle.runs.specs.Planned.{Moves, NoneMoves};
 
-use crate::ability::Ability;
-use crate::threaded::Threaded;
+use crate::next_step::NextStep;
+use crate::standing::Standing;
 
 /// Whether a thread can move.
-pub fn can_move<M: Threaded>(machine: &M, thread: u32) -> bool
+pub fn can_move<M: Standing>(machine: &M, thread: u32) -> bool
     ensures { IsTrue result ↔ Moves ((M.system machine.now).next (M.state machine.now) thread) }
 {
     match machine.what_next(thread) {
-        Ability::Moves => true,
+        NextStep::Moves => true,
         _ => false,
     }
 }
 
 /// A thread that can move: one of these two, or the least one.
-pub fn mover<M: Threaded>(machine: &M, one: u32, other: u32) -> Option<u32>
+pub fn mover<M: Standing>(machine: &M, one: u32, other: u32) -> Option<u32>
     ensures { MatchOption result (NoneMoves (M.system machine.now) (M.state machine.now))
         (λ thread. Moves ((M.system machine.now).next (M.state machine.now) thread)) }
 {

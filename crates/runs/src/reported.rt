@@ -4,9 +4,9 @@ ghost use Rattle.std.specs.Prelude.{◌≡◌, ℕ, List, Option, IfOk, MatchOpt
 ghost use Rattle.runs.specs.WaitTable.{IsCycleFrom, IsReported, NoCycle};
 ghost use Rattle.runs.specs.Walks.{IsCircuit};
 
+use crate::NoMemory;
 use crate::least::least_circuit;
-use crate::no_memory::NoMemory;
-use crate::walk::{Circuit, awaited};
+use crate::walk::{Circuit, awaited_by};
 use sqlite_items::Items;
 use std::alloc::Global;
 
@@ -23,7 +23,7 @@ fn threads_of(
     threads.push(circuit.thread)?;
     let mut thread = circuit.thread;
     for _step in 0..circuit.length {
-        let Some(next) = awaited(table, thread as usize) else {
+        let Some(next) = awaited_by(table, thread as usize) else {
             return Ok(threads);
         };
         if next == circuit.thread {

@@ -5,7 +5,7 @@ ghost use Rattle.runs.specs.Ends.{EndsAs};
 ghost use Rattle.runs.specs.Planned.{Planned, RoundRobin, total};
 ghost use Rattle.runs.specs.System.{reach};
 
-use crate::no_memory::NoMemory;
+use crate::NoMemory;
 use crate::ran::Ran;
 use crate::rounds::go_round;
 use crate::threaded::Threaded;

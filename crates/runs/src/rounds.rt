@@ -1,15 +1,16 @@
 //! Turns of a round robin.
 
-ghost use Rattle.std.specs.Prelude.{◌≡◌, ◌++◌, ◌-◌, ◌<◌, List, IfOk};
+ghost use Rattle.std.specs.Prelude.{◌≡◌, ◌++◌, ◌-◌, ◌<◌, List, IfOk, None};
 ghost use Rattle.runs.specs.declared.turn.Turn.{Turn};
+ghost use Rattle.runs.specs.Course.{Course};
 ghost use Rattle.runs.specs.Ends.{EndsAs};
-ghost use Rattle.runs.specs.Made.{Rounds};
-ghost use Rattle.runs.specs.Planned.{total};
+ghost use Rattle.runs.specs.Planned.{Round, total};
 
-use crate::circle::{Comes, next_after};
+use crate::NoMemory;
+use crate::circle::next_after;
 use crate::ending::Ending;
 use crate::judging::ended;
-use crate::no_memory::NoMemory;
+use crate::taking::take_turn;
 use crate::threaded::Threaded;
 use crate::turn::Turn;
 use sqlite_items::Items;
@@ -26,21 +27,24 @@ pub fn rounds<M: Threaded>(
     requires { 0 < quantum }
     ensures system { M.system machine.new ≡ M.system machine.old }
     ensures rounds { IfOk result (λ _. (turns : List Turn) × (schedule.new ≡ schedule.old ++ turns)
-        × Rounds (M.system machine.old) quantum budget (M.state machine.old) turns (M.state machine.new)) }
+        × Course (M.system machine.old) budget (Round quantum 0) (M.state machine.old) turns None (M.state machine.new)) }
 {
     let mut left = budget;
     let mut last = 0;
     while left > 0 {
-        match next_after(machine, last) {
-            Comes::Mover { thread } => {
-                let count = machine.moves(alloc, thread, quantum.min(left))?;
-                schedule.push(Turn { thread, count })?;
-                left -= count;
-                last = thread;
-            }
-            Comes::Stuck { .. } => return Ok(()),
-            Comes::Nobody => return Ok(()),
+        let Some(thread) = next_after(machine, last) else {
+            return Ok(());
+        };
+        let turn = Turn {
+            thread,
+            count: quantum,
+        };
+        let taken = take_turn(alloc, machine, turn, left, schedule)?;
+        if taken.halted {
+            return Ok(());
         }
+        left -= taken.made;
+        last = thread;
     }
     Ok(())
 }
@@ -56,7 +60,7 @@ pub fn go_round<M: Threaded>(
     requires { 0 < quantum }
     ensures system { M.system machine.new ≡ M.system machine.old }
     ensures rounds { IfOk result (λ end. (turns : List Turn) × (schedule.new ≡ schedule.old ++ turns)
-        × Rounds (M.system machine.old) quantum budget (M.state machine.old) turns (M.state machine.new)
+        × Course (M.system machine.old) budget (Round quantum 0) (M.state machine.old) turns None (M.state machine.new)
         × EndsAs (M.system machine.old) (budget - total turns) (M.state machine.new) end) }
 {
     rounds(alloc, machine, quantum, budget, schedule)?;

@@ -3,7 +3,7 @@
 ghost use Rattle.std.specs.Prelude.{◌≡◌, IfOk};
 ghost use Rattle.runs.specs.System.{reach};
 
-use crate::no_memory::NoMemory;
+use crate::NoMemory;
 use crate::threaded::Threaded;
 use crate::turn::Turn;
 use std::alloc::Global;

@@ -19,7 +19,7 @@ pub struct Walk {
 }
 
 /// Whom a thread waits for.
-pub fn awaited(table: &[Option<u32>], thread: usize) -> Option<u32>
+pub fn awaited_by(table: &[Option<u32>], thread: usize) -> Option<u32>
     ensures { result ≡ awaited_by table.now thread }
 {
     if thread == 0 {
@@ -46,7 +46,7 @@ pub fn meet(table: &[Option<u32>], marks: &mut [usize], before: usize, start: us
     'steps: loop {
         met += 1;
         marks[thread] = met;
-        let Some(next) = awaited(table, thread) else {
+        let Some(next) = awaited_by(table, thread) else {
             return Walk { met, circuit: None };
         };
         thread = next as usize;

@@ -1,4 +1,4 @@
-use sl_name::Name;
+use sl_base::Name;
 use std::alloc::AllocError;
 use std::env;
 use std::io::ErrorKind;

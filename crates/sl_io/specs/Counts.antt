@@ -1,5 +1,5 @@
 -- Counts of faults, which stand still at 2^64 - 1.
-use Rattle.std.specs.Prelude.{ℕ, ◌+◌, ◌-◌, ◌^◌, ◌≤◌, min, List, Bool, if◌then◌else◌}
+use Rattle.std.specs.Prelude.{◌≡◌, ℕ, ◌+◌, ◌-◌, ◌^◌, ◌≤◌, min, List, Bool, if◌then◌else◌}
 
 -- a count after one more fault
 abbrev pub raised : ℕ → ℕ
@@ -16,3 +16,7 @@ Rose before now = raised before ≤ now
 -- no name's count falls
 abbrev pub NeverFalls : (List ℕ → ℕ) → (List ℕ → ℕ) → Type 0
 NeverFalls before now = (name : List ℕ) → before name ≤ now name
+
+-- no name's count changed
+abbrev pub SameCounts : (List ℕ → ℕ) → (List ℕ → ℕ) → Type 0
+SameCounts before now = (name : List ℕ) → now name ≡ before name

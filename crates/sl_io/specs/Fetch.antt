@@ -35,6 +35,14 @@ OnFailed Long P = Unit {0}
 OnFailed Failed P = P
 OnFailed Memory P = Unit {0}
 
+-- P holds where the outside didn't fail
+abbrev pub UnlessFailed : Fetch → Type 0 → Type 0
+UnlessFailed (Bytes bytes) P = P
+UnlessFailed Missing P = P
+UnlessFailed Long P = P
+UnlessFailed Failed P = Unit {0}
+UnlessFailed Memory P = P
+
 -- whether the outside failed
 abbrev pub is_failed : Fetch → Bool
 is_failed (Bytes bytes) = false

@@ -1,10 +1,11 @@
 pub mod Counts
-pub mod FaultPlan
-pub mod Fetch
 pub mod Files
 pub mod Gains
+pub mod Fetch
+pub mod Put
+pub mod SinkFault
+pub mod FaultPlan
 pub mod Gathered
 pub mod Held
-pub mod Put
+-- For proofs only.
 pub mod Reading
-pub mod SinkFault

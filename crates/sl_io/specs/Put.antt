@@ -21,6 +21,12 @@ OnPutMemory Done P = Unit {0}
 OnPutMemory Failed P = Unit {0}
 OnPutMemory Memory P = P
 
+-- P holds where the outside didn't fail
+abbrev pub UnlessPutFailed : Put → Type 0 → Type 0
+UnlessPutFailed Done P = P
+UnlessPutFailed Failed P = Unit {0}
+UnlessPutFailed Memory P = P
+
 -- whether the outside failed
 abbrev pub is_put_failed : Put → Bool
 is_put_failed Done = false

@@ -8,3 +8,9 @@ abbrev pub OnSinkFailed : {T : Type 0} → Result T SinkFault → Type 0 → Typ
 OnSinkFailed (Ok x) P = Unit {0}
 OnSinkFailed (Err Failed) P = P
 OnSinkFailed (Err Memory) P = Unit {0}
+
+-- P holds where memory ran out
+abbrev pub OnSinkMemory : {T : Type 0} → Result T SinkFault → Type 0 → Type 0
+OnSinkMemory (Ok x) P = Unit {0}
+OnSinkMemory (Err Failed) P = Unit {0}
+OnSinkMemory (Err Memory) P = P

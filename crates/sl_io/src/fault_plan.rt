@@ -1,4 +1,4 @@
-ghost use Rattle.std.specs.Prelude.{◌≡◌, ◌≤◌};
+ghost use Rattle.std.specs.Prelude.{◌≡◌, ◌≤◌, false};
 ghost use Rattle.sl_io.specs.FaultPlan.{is_failing, after_call};
 
 use std::marker::Model;
@@ -20,6 +20,7 @@ impl Model for FaultPlan {
 }
 
 impl FaultPlan {
+    // A plan of which no call has come.
     pub fn new(failing: Vec<u32>) -> FaultPlan
         ensures { result ≡ record { failing = failing.items; calls = 0; faults = 0 } }
     {
@@ -30,6 +31,7 @@ impl FaultPlan {
         }
     }
 
+    // How many calls came.
     pub fn calls(&self) -> u32
         ensures { result ≡ self.now.calls }
     {
@@ -41,6 +43,7 @@ impl FaultPlan {
         ensures fails { result ≡ is_failing self.old }
         ensures after { self.new ≡ after_call self.old }
         ensures counts { self.old.faults ≤ self.new.faults }
+        ensures quiet { result ≡ false → self.new.faults ≡ self.old.faults }
     {
         self.calls = self.calls.saturating_add(1);
         let fails = self.failing.contains(&self.calls);

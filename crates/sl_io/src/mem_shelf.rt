@@ -2,14 +2,14 @@ ghost use Rattle.std.specs.Prelude.{◌≡◌, ◌≤◌, ◌<◌, ◌↔◌, �
 ghost use Rattle.std.specs.Option.{option_copied};
 ghost use Rattle.sl_io.specs.Counts.{Rose};
 ghost use Rattle.sl_io.specs.FaultPlan.{is_failing, after_call};
-ghost use Rattle.sl_io.specs.Fetch.{IfBytes, OnMissing, OnLong, OnFailed};
+ghost use Rattle.sl_io.specs.Fetch.{IfBytes, OnMissing, OnLong, OnFailed, UnlessFailed};
 ghost use Rattle.sl_io.specs.Files.{Binds};
 ghost use Rattle.sl_io.specs.Held.{stored, file_in, IsPlace};
-ghost use Rattle.sl_io.specs.Put.{OnDone, OnPutFailed, OnPutMemory};
+ghost use Rattle.sl_io.specs.Put.{OnDone, OnPutFailed, OnPutMemory, UnlessPutFailed};
 
 use crate::fault_plan::FaultPlan;
 use crate::{Fetch, Put, Shelf};
-use sl_name::Name;
+use sl_base::Name;
 use sqlite_items::Items;
 use std::alloc::{AllocError, Global};
 use std::marker::Model;
@@ -116,6 +116,7 @@ impl Shelf for MemShelf {
         ensures long { OnLong result
             (IsSomeAnd (file_in self.old.files name.now) (λ bytes. most < length bytes)) }
         ensures failed { OnFailed result (Rose self.old.plan.faults self.new.plan.faults) }
+        ensures quiet { UnlessFailed result (self.new.plan.faults ≡ self.old.plan.faults) }
         ensures fails { (result ≡ Fetch.Failed) ↔ IsTrue (is_failing self.old.plan) }
         ensures plan { self.new.plan ≡ after_call self.old.plan }
     {
@@ -139,6 +140,7 @@ impl Shelf for MemShelf {
         ensures done { OnDone result
             (Binds (file_in self.old.files) (file_in self.new.files) name.now bytes.now) }
         ensures failed { OnPutFailed result (Rose self.old.plan.faults self.new.plan.faults) }
+        ensures quiet { UnlessPutFailed result (self.new.plan.faults ≡ self.old.plan.faults) }
         ensures kept { OnPutFailed result (self.new.files ≡ self.old.files) }
         ensures memory { OnPutMemory result (self.new.files ≡ self.old.files) }
         ensures fails { (result ≡ Put.Failed) ↔ IsTrue (is_failing self.old.plan) }

@@ -2,7 +2,7 @@ ghost use Rattle.std.specs.Prelude.{◌≡◌, ◌≤◌, ◌<◌, ◌↔◌, []
 ghost use Rattle.sl_io.specs.Counts.{Rose};
 ghost use Rattle.sl_io.specs.FaultPlan.{is_failing, after_call};
 ghost use Rattle.sl_io.specs.Gains.{Gains};
-ghost use Rattle.sl_io.specs.SinkFault.{OnSinkFailed};
+ghost use Rattle.sl_io.specs.SinkFault.{OnSinkFailed, OnSinkMemory};
 
 use crate::fault_plan::FaultPlan;
 use crate::{Sink, SinkFault};
@@ -81,6 +81,8 @@ impl Sink for MemSink {
         ensures stuck { IfOk result (λ taken. taken ≡ 0 → 0 < length piece.now →
             Rose self.old.plan.faults self.new.plan.faults) }
         ensures counts { self.old.plan.faults ≤ self.new.plan.faults }
+        ensures quiet { IfOk result (λ taken. 0 < taken → self.new.plan.faults ≡ self.old.plan.faults) }
+        ensures memory { OnSinkMemory result (self.new.plan.faults ≡ self.old.plan.faults) }
         ensures takes { IfOk result (λ taken. taken ≡ min (length piece.now) self.old.most) }
         ensures fails { (result ≡ Err SinkFault.Failed) ↔ IsTrue (is_failing self.old.plan) }
         ensures plan { self.new.plan ≡ after_call self.old.plan }

@@ -1,8 +1,8 @@
 ghost use Rattle.std.specs.Prelude.{◌≡◌, ◌≤◌, ℕ, Bool, List, Option, None, Some, length, IsTrue, IsSomeAnd, ◌<◌};
-ghost use Rattle.sl_io.specs.Counts.{Rose, NeverFalls};
-ghost use Rattle.sl_io.specs.Fetch.{IfBytes, OnMissing, OnLong, OnFailed};
+ghost use Rattle.sl_io.specs.Counts.{Rose, NeverFalls, SameCounts};
+ghost use Rattle.sl_io.specs.Fetch.{IfBytes, OnMissing, OnLong, OnFailed, UnlessFailed};
 ghost use Rattle.sl_io.specs.Files.{SameFiles, SameButAt, Binds};
-ghost use Rattle.sl_io.specs.Put.{OnDone, OnPutFailed, OnPutMemory};
+ghost use Rattle.sl_io.specs.Put.{OnDone, OnPutFailed, OnPutMemory, UnlessPutFailed};
 
 use crate::{Fetch, Put};
 use std::alloc::Global;
@@ -30,7 +30,9 @@ pub trait Shelf {
             OnMissing result (file self.old name.now ≡ None) }
         ensures long { IsTrue (tells self.old) →
             OnLong result (IsSomeAnd (file self.old name.now) (λ bytes. most < length bytes)) }
-        ensures failed { OnFailed result (Rose (faults self.old name.now) (faults self.new name.now)) };
+        ensures failed { OnFailed result (Rose (faults self.old name.now) (faults self.new name.now)) }
+        // no fault was met, at any name, where it didn't fail
+        ensures quiet { UnlessFailed result (SameCounts (faults self.old) (faults self.new)) };
 
     /// Makes `bytes` the file of this name, in place of the one that it had.
     fn put(&mut self, alloc: Global, name: &str, bytes: &[u8]) -> Put
@@ -40,5 +42,6 @@ pub trait Shelf {
             OnDone result (Binds (file self.old) (file self.new) name.now bytes.now) }
         ensures failed { OnPutFailed result (Rose (faults self.old name.now) (faults self.new name.now)) }
         ensures others { OnPutFailed result (SameButAt (file self.old) (file self.new) name.now) }
-        ensures memory { OnPutMemory result (SameFiles (file self.old) (file self.new)) };
+        ensures memory { OnPutMemory result (SameFiles (file self.old) (file self.new)) }
+        ensures quiet { UnlessPutFailed result (SameCounts (faults self.old) (faults self.new)) };
 }

@@ -1,14 +1,18 @@
 ghost use Rattle.std.specs.Prelude.{◌≡◌, ◌≤◌, ◌<◌, ℕ, List, Option, length, take, IfOk, OnErr};
 ghost use Rattle.sl_io.specs.Counts.{Rose};
 ghost use Rattle.sl_io.specs.Gains.{Gains};
-ghost use Rattle.sl_io.specs.SinkFault.{OnSinkFailed};
+ghost use Rattle.sl_io.specs.SinkFault.{OnSinkFailed, OnSinkMemory};
+
+use thiserror::Error;
 
 /// Why a stream took no bytes.
-#[derive(Clone, Copy, Debug, PartialEq, Eq)]
+#[derive(Clone, Copy, Debug, PartialEq, Eq, Error)]
 pub enum SinkFault {
     /// The outside failed.
+    #[error("the stream failed")]
     Failed,
     /// Memory ran out.
+    #[error("no memory was left")]
     Memory,
 }
 
@@ -30,5 +34,8 @@ pub trait Sink {
         // it takes nothing of a piece with bytes only at a fault
         ensures stuck { IfOk result (λ taken. taken ≡ 0 → 0 < length piece.now →
             Rose (faults self.old) (faults self.new)) }
-        ensures counts { faults self.old ≤ faults self.new };
+        ensures counts { faults self.old ≤ faults self.new }
+        // no fault was met where it took a byte, or memory ran out
+        ensures quiet { IfOk result (λ taken. 0 < taken → faults self.new ≡ faults self.old) }
+        ensures memory { OnSinkMemory result (faults self.new ≡ faults self.old) };
 }

@@ -2,7 +2,7 @@ ghost use Rattle.std.specs.Prelude.{◌≡◌, ◌≤◌, ◌<◌, length, None,
 ghost use Rattle.std.specs.Io.{WritesAtMost};
 ghost use Rattle.std.specs.Io.KnownBytes.{WriteAppends};
 ghost use Rattle.sl_io.specs.Counts.{Rose};
-ghost use Rattle.sl_io.specs.SinkFault.{OnSinkFailed};
+ghost use Rattle.sl_io.specs.SinkFault.{OnSinkFailed, OnSinkMemory};
 
 use crate::{Sink, SinkFault};
 use std::io::{self, ErrorKind, Write};
@@ -62,6 +62,7 @@ impl<W: Write + Drop> Sink for StdSink<W> {
             Rose self.old.faults self.new.faults) }
         ensures counts { self.old.faults ≤ self.new.faults }
         ensures quiet { IfOk result (λ taken. 0 < taken → self.new.faults ≡ self.old.faults) }
+        ensures memory { OnSinkMemory result (self.new.faults ≡ self.old.faults) }
         // what a stream that tells its bytes was given
         ensures stream { WriteAppends (W.contents self.old.to) (W.contents self.new.to) result piece.now }
     {

@@ -1,5 +1,5 @@
 use crate::{Fetch, MemShelf, MemSink, Put, Shelf, Sink, SinkFault, StdShelf, StdSink, write_all};
-use sl_name::Name;
+use sl_base::Name;
 use std::alloc::{AllocError, Global};
 use std::fs;
 use std::test::Fail;

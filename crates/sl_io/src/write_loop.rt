@@ -1,7 +1,7 @@
-ghost use Rattle.std.specs.Prelude.{◌≤◌, OnOk, OnErr};
+ghost use Rattle.std.specs.Prelude.{◌≡◌, ◌≤◌, OnOk, OnErr};
 ghost use Rattle.sl_io.specs.Counts.{Rose};
 ghost use Rattle.sl_io.specs.Gains.{Gains, GainsFront};
-ghost use Rattle.sl_io.specs.SinkFault.{OnSinkFailed};
+ghost use Rattle.sl_io.specs.SinkFault.{OnSinkFailed, OnSinkMemory};
 
 use crate::{Sink, SinkFault};
 
@@ -11,6 +11,9 @@ pub fn write_all<S: Sink>(sink: &mut S, piece: &[u8]) -> Result<(), SinkFault>
     ensures front { OnErr result (GainsFront (S.contents sink.old) piece.now (S.contents sink.new)) }
     ensures failed { OnSinkFailed result (Rose (S.faults sink.old) (S.faults sink.new)) }
     ensures counts { S.faults sink.old ≤ S.faults sink.new }
+    // no fault was met where the piece was written, or memory ran out
+    ensures quiet { OnOk result (S.faults sink.new ≡ S.faults sink.old) }
+    ensures memory { OnSinkMemory result (S.faults sink.new ≡ S.faults sink.old) }
 {
     let mut at = 0;
     while at < piece.len() {

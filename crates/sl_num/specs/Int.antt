@@ -20,5 +20,5 @@ abbrev pub shift_count : ℤ → ℕ
 shift_count b = shift_distance 32 b
 
 -- `a OP b`
-abbrev pub int_value : IntOp → ℤ → ℤ → ℤ
-int_value op a b = value 32 op a b
+abbrev pub int : IntOp → ℤ → ℤ → ℤ
+int op a b = value 32 op a b

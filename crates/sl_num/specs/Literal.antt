@@ -21,6 +21,7 @@ is_hex text = slice_index text 0 == 48 && (slice_index text 1 == 120 || slice_in
 abbrev pub digits : List ℕ → List ℕ
 digits text = drop (if is_hex text then 2 else 0) (take (length text - (if is_long text then 1 else 0)) text)
 
+-- how many digits there are: 16 in hexadecimal, else 10
 abbrev pub radix : Bool → ℕ
 radix hex = if hex then 16 else 10
 
@@ -45,13 +46,14 @@ greatest false true = 2 ^ 63
 greatest true false = 2 ^ 32 - 1
 greatest true true = 2 ^ 64 - 1
 
+-- the number itself, with its type and its radix
 abbrev pub numeral : Bool → Bool → ℕ → Numeral
 numeral hex false n = Int n hex
 numeral hex true n = Long n hex
 
 -- what the text writes, or why it writes no number
-abbrev pub reading : List ℕ → Result Numeral NumFault
-reading text =
+abbrev pub literal : List ℕ → Result Numeral NumFault
+literal text =
     let hex = is_hex text in
     let long = is_long text in
     let n = number (radix hex) (digits text) in

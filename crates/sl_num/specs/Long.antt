@@ -20,5 +20,5 @@ abbrev pub long_shift_count : ℤ → ℕ
 long_shift_count b = shift_distance 64 b
 
 -- `a OP b`
-abbrev pub long_value : IntOp → ℤ → ℤ → ℤ
-long_value op a b = value 64 op a b
+abbrev pub long : IntOp → ℤ → ℤ → ℤ
+long op a b = value 64 op a b

@@ -1,13 +1,13 @@
 //! What the operators of `Int` give.
 
 ghost use Rattle.std.specs.Prelude.{◌≡◌, ◌<◌};
-ghost use Rattle.sl_num.specs.Int.{int_value, shift_count};
+ghost use Rattle.sl_num.specs.Int.{int, shift_count};
 
 use crate::int_op::IntOp;
 
 /// `a OP b` of two `Int`s (JVMS 6.5, iadd to iushr).
 pub fn int(op: IntOp, a: i32, b: i32) -> i32
-    ensures { result ≡ int_value op a b }
+    ensures { result ≡ int op a b }
 {
     match op {
         IntOp::Add => a.wrapping_add(b),

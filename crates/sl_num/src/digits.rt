@@ -20,6 +20,7 @@ pub(crate) fn is_numeral(digits: &[u8], hex: bool) -> bool
     are_digits(digits, base) && (hex || byte_at(digits, 0) != b'0' || digits.len() == 1)
 }
 
+// Whether these are digits of the radix, with underscores between them.
 fn are_digits(digits: &[u8], base: u64) -> bool
     ensures { result ≡ are_digits base digits.now }
 {
@@ -29,12 +30,14 @@ fn are_digits(digits: &[u8], base: u64) -> bool
         && is_digit(byte_at(digits, last), base)
 }
 
+// Whether each byte is a digit of the radix or an underscore.
 fn are_digits_or_underscores(digits: &[u8], base: u64) -> bool
     ensures { result ≡ list_all (λ c. c == 95 || is_digit c base) digits.now }
 {
     digits.iter().all(|c| *c == b'_' || is_digit(*c, base))
 }
 
+// Whether the byte is a digit of the radix.
 fn is_digit(c: u8, base: u64) -> bool
     ensures { result ≡ is_digit c base }
 {

@@ -4,9 +4,9 @@ ghost use Rattle.std.specs.Prelude.{◌≡◌, ◌≢◌, ◌<◌, ℕ, ℤ, pos
 ghost use Rattle.std.specs.Int.{w32, w64};
 ghost use Rattle.sl_num.specs.declared.int_op.IntOp.TheVariants.{Add, Mul};
 ghost use Rattle.sl_num.specs.Division.{int_quotient, long_quotient, remainder, HasSignOf};
-ghost use Rattle.sl_num.specs.Int.{signed32, IsWrapped, int_value};
+ghost use Rattle.sl_num.specs.Int.{signed32, IsWrapped, int};
 ghost use Rattle.sl_num.specs.Literal.{is_hex, is_long, digits, is_numeral};
-ghost use Rattle.sl_num.specs.Long.{signed64, IsWrappedLong, long_value};
+ghost use Rattle.sl_num.specs.Long.{signed64, IsWrappedLong, long};
 ghost use Rattle.sl_num.specs.Spelling.{IsSpelled};
 
 /// Each whole number `x` differs by a multiple of 2^32 from one `Int`, `signed32 x`, and from no other.
@@ -26,13 +26,13 @@ pub fn wrapping_long()
 pub fn dividing()
     ensures size { (a b : ℤ) → b ≢ pos 0 → unsigned_abs (remainder a b) < unsigned_abs b }
     ensures sign { (a b : ℤ) → HasSignOf a (remainder a b) }
-    ensures int { (a b : ℤ) → FitsSigned w32 a
-        → int_value Add (int_value Mul (int_quotient a b) b) (remainder a b) ≡ a }
-    ensures long { (a b : ℤ) → FitsSigned w64 a
-        → long_value Add (long_value Mul (long_quotient a b) b) (remainder a b) ≡ a }
+    ensures int_whole { (a b : ℤ) → FitsSigned w32 a
+        → int Add (int Mul (int_quotient a b) b) (remainder a b) ≡ a }
+    ensures long_whole { (a b : ℤ) → FitsSigned w64 a
+        → long Add (long Mul (long_quotient a b) b) (remainder a b) ≡ a }
 {}
 
-/// Each text is a beginning, digits and an end as `reading` takes it apart, and one of a number's form in no other way.
+/// Each text is a beginning, digits and an end as `literal` takes it apart, and one of a number's form in no other way.
 pub fn spelling()
     ensures some { (text : List ℕ) → IsSpelled text (is_hex text) (is_long text) (digits text) }
     ensures only { (text ds : List ℕ) (hex long : Bool)

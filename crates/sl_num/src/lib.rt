@@ -11,7 +11,6 @@ mod literals;
 mod long_arithmetic;
 mod long_division;
 mod long_text;
-mod no_memory;
 mod number;
 #[cfg(test)]
 mod tests;
@@ -25,6 +24,6 @@ pub use literals::literal;
 pub use long_arithmetic::long;
 pub use long_division::{long_div, long_rem};
 pub use long_text::put_i64;
-pub use no_memory::NoMemory;
 pub use number::{NumFault, Numeral};
+pub use sl_base::NoMemory;
 pub use text::put_i32;

@@ -1,7 +1,7 @@
 //! Reads a number's text.
 
 ghost use Rattle.std.specs.Prelude.{◌≡◌, ◌≤◌};
-ghost use Rattle.sl_num.specs.Literal.{reading, is_long, is_hex, digits, radix, greatest, numeral};
+ghost use Rattle.sl_num.specs.Literal.{literal, is_long, is_hex, digits, radix, greatest, numeral};
 
 use crate::digits::{byte_at, is_numeral, number_up_to};
 use crate::number::{NumFault, Numeral};
@@ -11,7 +11,7 @@ use crate::number::{NumFault, Numeral};
 /// with `_` between digits, and then perhaps `L` or `l`.
 /// `TooLarge`: it is, and writes more than 2^31 in decimal or 2^32 - 1 in hexadecimal; with `L`, than 2^63 or 2^64 - 1.
 pub fn literal(text: &str) -> Result<Numeral, NumFault>
-    ensures { result ≡ reading text.now }
+    ensures { result ≡ literal text.now }
 {
     let text = text.as_bytes();
     let hex = is_hex(text);
@@ -26,6 +26,7 @@ pub fn literal(text: &str) -> Result<Numeral, NumFault>
     }
 }
 
+// Whether the text ends in `L` or `l`.
 fn is_long(text: &[u8]) -> bool
     ensures { result ≡ is_long text.now }
 {
@@ -33,6 +34,7 @@ fn is_long(text: &[u8]) -> bool
     last == b'L' || last == b'l'
 }
 
+// Whether it begins with `0x` or `0X`.
 fn is_hex(text: &[u8]) -> bool
     ensures { result ≡ is_hex text.now }
 {
@@ -59,12 +61,14 @@ fn digits(text: &[u8], hex: bool, long: bool) -> &[u8]
     }
 }
 
+// The radix of the digits.
 fn radix(hex: bool) -> u64
     ensures { result ≡ radix hex }
 {
     if hex { 16 } else { 10 }
 }
 
+// The greatest number that the text may write.
 fn greatest(hex: bool, long: bool) -> u64
     ensures { result ≡ greatest hex long }
 {
@@ -76,6 +80,7 @@ fn greatest(hex: bool, long: bool) -> u64
     }
 }
 
+// The number, with its type.
 fn numeral(hex: bool, long: bool, value: u64) -> Numeral
     requires { value ≤ greatest hex long }
     ensures { result ≡ numeral hex long value }

@@ -1,13 +1,13 @@
 //! What the operators of `Long` give.
 
 ghost use Rattle.std.specs.Prelude.{◌≡◌, ◌<◌};
-ghost use Rattle.sl_num.specs.Long.{long_value, long_shift_count};
+ghost use Rattle.sl_num.specs.Long.{long, long_shift_count};
 
 use crate::int_op::IntOp;
 
 /// `a OP b` of two `Long`s (JVMS 6.5, ladd to lushr). A shift's distance is a `Long` here too.
 pub fn long(op: IntOp, a: i64, b: i64) -> i64
-    ensures { result ≡ long_value op a b }
+    ensures { result ≡ long op a b }
 {
     match op {
         IntOp::Add => a.wrapping_add(b),

@@ -3,7 +3,7 @@
 ghost use Rattle.std.specs.Prelude.{◌≡◌, ◌++◌, OnOk, OnErr};
 ghost use Rattle.std.specs.Fmt.{signed_decimal};
 
-use crate::no_memory::NoMemory;
+use crate::NoMemory;
 use itoa::Buffer;
 
 /// Appends the decimal digits of `n`, after a `-` if it is below 0.

@@ -3,7 +3,7 @@ use Rattle.std.proofs.Common.{◌≡◌, ◌≢◌, refl, ℕ, ◌+◌, ◌-◌,
 use Rattle.std.proofs.lemmas.Bool.{ne_eqb}
 use Rattle.std.proofs.lemmas.List.Sums.{count_by_more_no, count_by_more_yes}
 use Rattle.std.specs.Prelude.{◌==◌}
-use Rattle.sl_text.specs.Place.{IsSpot}
+use Rattle.sl_text.specs.Spot.{IsSpot}
 
 pub at_start : (text : List ℕ) → IsSpot text 0 1 1
 at_start text = record { lines = refl; start = 0; starts = inl refl; columns = refl; before = omega arith; same_line = λ k a b. absurd (omega arith) }

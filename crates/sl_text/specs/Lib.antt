@@ -1,2 +1,2 @@
 pub mod Utf8
-pub mod Place
+pub mod Spot

@@ -2,7 +2,7 @@
 
 ghost use Rattle.std.specs.Prelude.{◌≡◌, ◌⊎◌, ℕ, List};
 ghost use Rattle.sl_text.specs.Utf8.{IsScalarValue, Encodes, Spells, IsWellFormed, IsIllFormedAt};
-ghost use Rattle.sl_text.specs.Place.{IsSpot};
+ghost use Rattle.sl_text.specs.Spot.{IsSpot};
 
 /// UTF-8: each scalar value has one sequence and no other number has any; bytes spell one text or have
 /// a first ill-formed sequence, never both, and only one such text or place.
@@ -16,7 +16,7 @@ pub fn encoding()
     ensures apart { (bytes : List ℕ) (i : ℕ) → IsIllFormedAt bytes i → ¬ (IsWellFormed bytes) }
 {}
 
-/// A place has one line and one column.
+/// An offset has one line and one column.
 pub fn spots()
     ensures line { (text : List ℕ) (at l c m d : ℕ) → IsSpot text at l c → IsSpot text at m d → l ≡ m }
     ensures column { (text : List ℕ) (at l c m d : ℕ) → IsSpot text at l c → IsSpot text at m d → c ≡ d }

@@ -168,7 +168,24 @@ fn characters(rt: HostRuntime) -> Result<(), Fail> {
     Ok(())
 }
 
-// Each row has a text, a place in it, and the line and the column there.
+// Texts of 1 MiB: a piece whose bytes divide it, and the characters of the whole.
+#[test]
+fn whole_mebibytes(rt: HostRuntime) -> Result<(), Fail> {
+    for (piece, count) in [("a", 1 << 20), ("ß", 1 << 19), ("ß€😀abcdefg", 655360)] {
+        let mut bytes = Vec::new(rt.alloc());
+        for _ in 0..1 << 20 {
+            if bytes.len() < 1 << 20 {
+                bytes.extend_from_slice(piece.as_bytes())?;
+            }
+        }
+        assert!(rt; bytes.len() <= 1 << 20);
+        let length = chars_of(rt.alloc(), &bytes).map(|text| text.len());
+        assert_eq!(rt; length, Ok(count), "{piece}");
+    }
+    Ok(())
+}
+
+// Each row has a text, an offset in it, and the line and the column there.
 #[test]
 fn lines_and_columns(rt: HostRuntime) -> Result<(), Fail> {
     for (chars, at, line, column) in [

@@ -1,114 +1,144 @@
-use Rattle.std.proofs.Common.{◌≡◌, ℕ, ◌<◌, ◌≤◌, List, length, IsTrue, Option, None, Some, inl, inr, refl, sym, subst, arith, encode_utf8_all, IsSomeAnd}
+-- The status of a call of `run FILE` where the shelf tells its files.
+use Rattle.std.proofs.Common.{◌≡◌, ◌∙◌, ℕ, ◌<◌, ◌≤◌, List, [], ◌∷◌, length, codes, ap, IsTrue, Option, None, Some, inl, inr, refl, sym, subst, arith, encode_utf8_all, IsSomeAnd}
 use Rattle.runs.specs.declared.Turn.{Turn}
-use Rattle.sl_top.specs.declared.chain.Chain.{Chain}
-use Rattle.sl_top.specs.declared.ending.Ending.{Ending}
-use Rattle.sl_top.specs.declared.ending.Ending.TheVariants.{Printed, NotBuilt, ShelfFault, OutFault, Usage, Memory, Missing, Long}
+use Rattle.sl_top.specs.declared.outcome.Outcome.{Outcome}
+use Rattle.sl_top.specs.declared.outcome.Outcome.TheVariants.{Printed, NotBuilt, ShelfFault, OutFault, Usage, Memory, Missing, Long}
+use Rattle.sl_io.specs.Files.{SameFiles}
+use Rattle.sl_top.specs.declared.finished.Finished.{Finished}
 use Rattle.sl_top.specs.declared.source_file.TheConstants.{SOURCE_LIMIT}
-use Rattle.sl_top.specs.declared.request.Request.TheVariants.{Run}
-use Rattle.sl_top.specs.Causes.{EndsRun}
-use Rattle.sl_top.specs.Course.{Course}
-use Rattle.sl_top.specs.Ending.{status_of}
+use Rattle.sl_top.specs.Outcome.{status_of, Told, schedule_at, Yields}
 use Rattle.sl_top.specs.Listing.{IsListing}
 use Rattle.sl_top.specs.Outside.{ShelfSeen, SinkSeen}
-use Rattle.sl_top.specs.Printing.{AsksToRun, IsNotBuilt, IsSource}
-use Rattle.sl_top.specs.Request.{AsksNothing, defaults}
-use Rattle.sl_top.specs.Told.{Told}
-use Rattle.sl_top.specs.Top.{Yields}
+use Rattle.sl_top.specs.Printing.{IsNotBuilt, IsSource, PrintsFile}
+use Rattle.sl_top.specs.Request.{AsksToRun}
+use Rattle.sl_top.specs.Run.{Cause, EndsPrinting, EndsRun, Runs, IsDue, missing, long, not_built, printed}
 
--- what is told of an ending yields its status
-told_yields : (ending : Ending) (name : List ℕ) (err : SinkSeen) (status : ℕ) → Told ending name err status → Yields status (status_of ending)
-told_yields ending name err status (inl whole) = inl whole.1
-told_yields ending name err status (inr (has, front, inl failed)) = inr (inl failed.0)
-told_yields ending name err status (inr (has, front, inr memory)) = inr (inr memory)
+-- what is told of an outcome yields its status
+told_yields : (outcome : Outcome) (name : List ℕ) (err : SinkSeen) (status : ℕ) → Told outcome name err status → Yields status (status_of outcome)
+told_yields outcome name err status (inl whole) = inl whole.1
+told_yields outcome name err status (inr (has, inl broken)) = inr (inl broken.1)
+told_yields outcome name err status (inr (has, inr cut)) = inr (inr cut.1)
 
+-- one status yields to another, and that one to the one that is due
 yields_on : (status between due : ℕ) → Yields status between → Yields between due → Yields status due
 yields_on status between due (inl e) y = rw e y
 yields_on status between due (inr e) y = inr e
 
--- words ask to run one file
-same_name : (words : List (List ℕ)) (name other : List ℕ) → AsksToRun words name → AsksToRun words other → other ≡ name
-same_name words name other a b = let e = a.0 in let f = b.0 in cc
+-- a name has one file
+one_file : (file : Option (List ℕ)) (one other : List ℕ) → Some one ≡ file → file ≡ Some other → one ≡ other
+one_file file one other e f = cc
 
--- where the ending of each run yields a status, so does the call
-course_yields : (words : List (List ℕ)) (shelf : ShelfSeen) (out err : SinkSeen) (status due : ℕ) (schedule : List Turn) (name : List ℕ) → AsksToRun words name
-    → ((ending : Ending) → EndsRun ending shelf name out schedule → Yields (status_of ending) due)
-    → Course words shelf out err status schedule → Yields status due
-course_yields words shelf out err status due schedule name asks f course =
-    let told = told_yields course.ending (encode_utf8_all course.name) err status course.told in
-    elim course.ends [
-      | inl unasked ↦ elim unasked.0 [ inl usage ↦ absurd (usage.1 (Run name defaults) asks) | inr memory ↦ yields_on status (status_of course.ending) due told (rw memory (inr (inr refl))) ]
-      | inr asked ↦ yields_on status (status_of course.ending) due told (f course.ending (subst (λ n. EndsRun course.ending shelf n out schedule) (same_name words name course.name asks asked.0) asked.1))
-    ]
+no_file : (file : Option (List ℕ)) (one : List ℕ) → None ≡ file → file ≡ Some one → ⊥
+no_file file one e f = cc
 
-pub usage_yields : (words : List (List ℕ)) (shelf : ShelfSeen) (out err : SinkSeen) (status : ℕ) (schedule : List Turn) → AsksNothing words → Course words shelf out err status schedule → Yields status 6
-usage_yields words shelf out err status schedule none course =
-    let told = told_yields course.ending (encode_utf8_all course.name) err status course.told in
-    elim course.ends [
-      | inl unasked ↦ elim unasked.0 [ inl usage ↦ yields_on status (status_of course.ending) 6 told (rw usage.0 (inl refl)) | inr memory ↦ yields_on status (status_of course.ending) 6 told (rw memory (inr (inr refl))) ]
-      | inr asked ↦ absurd (none (Run course.name defaults) asked.0)
-    ]
+-- the file isn't longer than the limit, and longer
+too_long : (file : Option (List ℕ)) (bytes : List ℕ) → Some bytes ≡ file → length bytes ≤ SOURCE_LIMIT → IsSomeAnd file (λ found. SOURCE_LIMIT < length found) → ⊥
+too_long file bytes is short more = let k : IsSomeAnd (Some bytes) (λ found. SOURCE_LIMIT < length found) = subst (λ (o : Option (List ℕ)). IsSomeAnd o (λ found. SOURCE_LIMIT < length found)) (sym is) more in omega arith
 
--- the file that is told is the source
-told_source : (shelf : ShelfSeen) (name bytes source : List ℕ) → IsTrue shelf.tells → shelf.file (encode_utf8_all name) ≡ Some bytes → IsSource shelf.tells shelf.file name source → source ≡ bytes
-told_source shelf name bytes source tells is given = let e = given.told tells in cc
+module _ (shelf : ShelfSeen) (name : List ℕ) (tells : IsTrue shelf.tells) where
+  -- the bytes that the shelf gave are those of the file
+  given : (bytes source : List ℕ) → Some bytes ≡ shelf.file (encode_utf8_all name) → IsSource shelf.tells shelf.file name source → source ≡ bytes
+  given bytes source is from = sym (one_file (shelf.file (encode_utf8_all name)) bytes source is (from.told tells))
 
-no_source : (shelf : ShelfSeen) (name source : List ℕ) → IsTrue shelf.tells → shelf.file (encode_utf8_all name) ≡ None → IsSource shelf.tells shelf.file name source → ⊥
-no_source shelf name source tells is given = let e = given.told tells in cc
+  not_given : (source : List ℕ) → None ≡ shelf.file (encode_utf8_all name) → IsSource shelf.tells shelf.file name source → ⊥
+  not_given source is from = no_file (shelf.file (encode_utf8_all name)) source is (from.told tells)
 
-module _ (shelf : ShelfSeen) (name : List ℕ) (out : SinkSeen) (schedule : List Turn) (tells : IsTrue shelf.tells) where
-  missing_run : shelf.file (encode_utf8_all name) ≡ None → (ending : Ending) → EndsRun ending shelf name out schedule → Yields (status_of ending) 8
-  missing_run is Printed e = absurd (no_source shelf name e.2.bytes tells is e.2.source)
-  missing_run is OutFault e = inr (inl refl)
-  missing_run is Memory e = inr (inr refl)
-  missing_run is NotBuilt e = absurd (no_source shelf name e.0.0 tells is e.0.1)
-  missing_run is ShelfFault e = inr (inl refl)
-  missing_run is Missing e = inl refl
-  missing_run is Long e = inl refl
-  missing_run is Usage e = absurd e
+  given_short : (bytes source : List ℕ) → Some bytes ≡ shelf.file (encode_utf8_all name) → SOURCE_LIMIT < length bytes → IsSource shelf.tells shelf.file name source → ⊥
+  given_short bytes source is more from =
+      let l : length bytes ≤ SOURCE_LIMIT = subst (λ xs. length xs ≤ SOURCE_LIMIT) (given bytes source is from) from.short in omega arith
 
-  long_run : (bytes : List ℕ) → shelf.file (encode_utf8_all name) ≡ Some bytes → SOURCE_LIMIT < length bytes → (ending : Ending) → EndsRun ending shelf name out schedule → Yields (status_of ending) 8
-  long_run bytes is long Printed e = let s = told_source shelf name bytes e.2.bytes tells is e.2.source in let l = e.2.source.short in absurd (let k : length bytes ≤ SOURCE_LIMIT = subst (λ xs. length xs ≤ SOURCE_LIMIT) s l in omega arith)
-  long_run bytes is long OutFault e = inr (inl refl)
-  long_run bytes is long Memory e = inr (inr refl)
-  long_run bytes is long NotBuilt e = let s = told_source shelf name bytes e.0.0 tells is e.0.1 in let l = e.0.1.short in absurd (let k : length bytes ≤ SOURCE_LIMIT = subst (λ xs. length xs ≤ SOURCE_LIMIT) s l in omega arith)
-  long_run bytes is long ShelfFault e = inr (inl refl)
-  long_run bytes is long Missing e = inl refl
-  long_run bytes is long Long e = inl refl
-  long_run bytes is long Usage e = absurd e
+  -- the file isn't run
+  missing_unrun : (outcome : Outcome) → None ≡ shelf.file (encode_utf8_all name) → Cause outcome shelf name → Yields (status_of outcome) 8
+  missing_unrun Missing is c = inl refl
+  missing_unrun Long is c = inl refl
+  missing_unrun ShelfFault is c = inr (inl refl)
+  missing_unrun NotBuilt is c = let b = c.1 in absurd (not_given b.0 is b.1)
+  missing_unrun Memory is c = inr (inr refl)
+  missing_unrun Printed is c = absurd c
+  missing_unrun OutFault is c = absurd c
+  missing_unrun Usage is c = absurd c
 
-  -- a file that is there, and not too long, is read
-  is_read : (bytes : List ℕ) → shelf.file (encode_utf8_all name) ≡ Some bytes → length bytes ≤ SOURCE_LIMIT → IsSomeAnd (shelf.file (encode_utf8_all name)) (λ found. SOURCE_LIMIT < length found) → ⊥
-  is_read bytes is short long = let k : IsSomeAnd (Some bytes) (λ found. SOURCE_LIMIT < length found) = subst (λ (o : Option (List ℕ)). IsSomeAnd o (λ found. SOURCE_LIMIT < length found)) is long in omega arith
+  long_unrun : (outcome : Outcome) (bytes : List ℕ) → Some bytes ≡ shelf.file (encode_utf8_all name) → SOURCE_LIMIT < length bytes → Cause outcome shelf name → Yields (status_of outcome) 8
+  long_unrun Missing bytes is more c = inl refl
+  long_unrun Long bytes is more c = inl refl
+  long_unrun ShelfFault bytes is more c = inr (inl refl)
+  long_unrun NotBuilt bytes is more c = let b = c.1 in absurd (given_short bytes b.0 is more b.1)
+  long_unrun Memory bytes is more c = inr (inr refl)
+  long_unrun Printed bytes is more c = absurd c
+  long_unrun OutFault bytes is more c = absurd c
+  long_unrun Usage bytes is more c = absurd c
 
-  not_built_run : (bytes : List ℕ) → shelf.file (encode_utf8_all name) ≡ Some bytes → length bytes ≤ SOURCE_LIMIT → IsNotBuilt bytes → (ending : Ending) → EndsRun ending shelf name out schedule → Yields (status_of ending) 4
-  not_built_run bytes is short none Printed e = absurd (none e.2.prints.chains (subst (λ b. IsListing b e.2.prints.chains) (told_source shelf name bytes e.2.bytes tells is e.2.source) e.2.prints.listing))
-  not_built_run bytes is short none OutFault e = inr (inl refl)
-  not_built_run bytes is short none Memory e = inr (inr refl)
-  not_built_run bytes is short none NotBuilt e = inl refl
-  not_built_run bytes is short none ShelfFault e = inr (inl refl)
-  not_built_run bytes is short none Missing e = absurd (let f = e.0 tells in cc)
-  not_built_run bytes is short none Long e = absurd (is_read bytes is short (e.0 tells))
-  not_built_run bytes is short none Usage e = absurd e
+  not_built_unrun : (outcome : Outcome) (bytes : List ℕ) → Some bytes ≡ shelf.file (encode_utf8_all name) → length bytes ≤ SOURCE_LIMIT → Cause outcome shelf name → Yields (status_of outcome) 4
+  not_built_unrun Missing bytes is short c = let e = c.1 tells in absurd cc
+  not_built_unrun Long bytes is short c = absurd (too_long (shelf.file (encode_utf8_all name)) bytes is short (c.1 tells))
+  not_built_unrun ShelfFault bytes is short c = inr (inl refl)
+  not_built_unrun NotBuilt bytes is short c = inl refl
+  not_built_unrun Memory bytes is short c = inr (inr refl)
+  not_built_unrun Printed bytes is short c = absurd c
+  not_built_unrun OutFault bytes is short c = absurd c
+  not_built_unrun Usage bytes is short c = absurd c
 
-  printed_run : (bytes : List ℕ) (chains : List Chain) → shelf.file (encode_utf8_all name) ≡ Some bytes → length bytes ≤ SOURCE_LIMIT → IsListing bytes chains → (ending : Ending) → EndsRun ending shelf name out schedule → Yields (status_of ending) 0
-  printed_run bytes chains is short listing Printed e = inl refl
-  printed_run bytes chains is short listing OutFault e = inr (inl refl)
-  printed_run bytes chains is short listing Memory e = inr (inr refl)
-  printed_run bytes chains is short listing NotBuilt e = absurd (e.0.2 chains (subst (λ b. IsListing b chains) (sym (told_source shelf name bytes e.0.0 tells is e.0.1)) listing))
-  printed_run bytes chains is short listing ShelfFault e = inr (inl refl)
-  printed_run bytes chains is short listing Missing e = absurd (let f = e.0 tells in cc)
-  printed_run bytes chains is short listing Long e = absurd (is_read bytes is short (e.0 tells))
-  printed_run bytes chains is short listing Usage e = absurd e
+  printed_unrun : (outcome : Outcome) (bytes : List ℕ) → Some bytes ≡ shelf.file (encode_utf8_all name) → length bytes ≤ SOURCE_LIMIT → (IsNotBuilt bytes → ⊥) → Cause outcome shelf name → Yields (status_of outcome) 0
+  printed_unrun Missing bytes is short built c = let e = c.1 tells in absurd cc
+  printed_unrun Long bytes is short built c = absurd (too_long (shelf.file (encode_utf8_all name)) bytes is short (c.1 tells))
+  printed_unrun ShelfFault bytes is short built c = inr (inl refl)
+  printed_unrun NotBuilt bytes is short built c = let b = c.1 in absurd (built (subst IsNotBuilt (given bytes b.0 is b.1) b.2))
+  printed_unrun Memory bytes is short built c = inr (inr refl)
+  printed_unrun Printed bytes is short built c = absurd c
+  printed_unrun OutFault bytes is short built c = absurd c
+  printed_unrun Usage bytes is short built c = absurd c
 
-module _ (words : List (List ℕ)) (shelf : ShelfSeen) (out err : SinkSeen) (status : ℕ) (schedule : List Turn) (course : Course words shelf out err status schedule) (name : List ℕ) (asks : AsksToRun words name) (tells : IsTrue shelf.tells) where
-  pub missing_yields : shelf.file (encode_utf8_all name) ≡ None → Yields status 8
-  missing_yields is = course_yields words shelf out err status 8 schedule name asks (missing_run shelf name out schedule tells is) course
+  unrun_yields : (outcome : Outcome) {found : Option (List ℕ)} {due : ℕ} → Cause outcome shelf name → IsDue found due → found ≡ shelf.file (encode_utf8_all name) → Yields (status_of outcome) due
+  unrun_yields outcome c missing is = missing_unrun outcome is c
+  unrun_yields outcome c (long {bytes = bytes} more) is = long_unrun outcome bytes is more c
+  unrun_yields outcome c (not_built {bytes = bytes} short none) is = not_built_unrun outcome bytes is short c
+  unrun_yields outcome c (printed {bytes = bytes} {chains = chains} short listing) is = printed_unrun outcome bytes is short (λ none. none chains listing) c
 
-  pub long_yields : (bytes : List ℕ) → shelf.file (encode_utf8_all name) ≡ Some bytes → SOURCE_LIMIT < length bytes → Yields status 8
-  long_yields bytes is long = course_yields words shelf out err status 8 schedule name asks (long_run shelf name out schedule tells bytes is long) course
+  -- the file is run
+  printed_run : (outcome : Outcome) (out : SinkSeen) (text : List ℕ) → EndsPrinting outcome out text → Yields (status_of outcome) 0
+  printed_run Printed out text e = inl refl
+  printed_run OutFault out text e = inr (inl refl)
+  printed_run Memory out text e = inr (inr refl)
+  printed_run NotBuilt out text e = absurd e
+  printed_run ShelfFault out text e = absurd e
+  printed_run Usage out text e = absurd e
+  printed_run Missing out text e = absurd e
+  printed_run Long out text e = absurd e
 
-  pub not_built_yields : (bytes : List ℕ) → shelf.file (encode_utf8_all name) ≡ Some bytes → length bytes ≤ SOURCE_LIMIT → IsNotBuilt bytes → Yields status 4
-  not_built_yields bytes is short none = course_yields words shelf out err status 4 schedule name asks (not_built_run shelf name out schedule tells bytes is short none) course
+  run_yields : (outcome : Outcome) (out : SinkSeen) {found : Option (List ℕ)} {due : ℕ} (text : List ℕ) (steps : ℕ) → PrintsFile shelf.tells shelf.file name text steps
+      → EndsPrinting outcome out text → IsDue found due → found ≡ shelf.file (encode_utf8_all name) → Yields (status_of outcome) due
+  run_yields outcome out text steps prints e missing is = absurd (not_given prints.bytes is prints.source)
+  run_yields outcome out text steps prints e (long {bytes = bytes} more) is = absurd (given_short bytes prints.bytes is more prints.source)
+  run_yields outcome out text steps prints e (not_built {bytes = bytes} short none) is =
+      absurd (none prints.prints.chains (subst (λ b. IsListing b prints.prints.chains) (given bytes prints.bytes is prints.source) prints.prints.listing))
+  run_yields outcome out text steps prints e (printed short listing) is = printed_run outcome out text e
 
-  pub printed_yields : (bytes : List ℕ) (chains : List Chain) → shelf.file (encode_utf8_all name) ≡ Some bytes → length bytes ≤ SOURCE_LIMIT → IsListing bytes chains → Yields status 0
-  printed_yields bytes chains is short listing = course_yields words shelf out err status 0 schedule name asks (printed_run shelf name out schedule tells bytes chains is short listing) course
+  ends_yields : (outcome : Outcome) (out : SinkSeen) (schedule : List Turn) (due : ℕ) → EndsRun outcome name shelf out schedule → IsDue (shelf.file (encode_utf8_all name)) due → Yields (status_of outcome) due
+  ends_yields outcome out schedule due (inl unrun) d = unrun_yields outcome unrun.cause d refl
+  ends_yields outcome out schedule due (inr run) d = run_yields outcome out run.text run.steps run.prints run.printed d refl
+
+-- the file gives the status
+pub exactly_due : (name : List ℕ) (shelf : ShelfSeen) (out err : SinkSeen) (outcome : Outcome) (schedule : List Turn) (status : ℕ) → EndsRun outcome name shelf out schedule
+    → Told outcome (encode_utf8_all name) err status → IsTrue shelf.tells → (due : ℕ) → IsDue (shelf.file (encode_utf8_all name)) due → Yields status due
+exactly_due name shelf out err outcome schedule status ends told tells due d =
+    yields_on status (status_of outcome) due (told_yields outcome (encode_utf8_all name) err status told) (ends_yields shelf name tells outcome out schedule due ends d)
+
+-- a call that ran the file that the words name
+pub runs_of : (words : List (List ℕ)) (asked name text : List ℕ) (shelf : ShelfSeen) (out err : SinkSeen) (outcome : Outcome) (schedule : List Turn) (finished : Finished)
+    → words ≡ codes "run" ∷ asked ∷ [] → AsksToRun words name → text ≡ encode_utf8_all asked
+    → EndsRun outcome asked shelf out schedule → Told outcome text err finished.status
+    → finished.schedule ≡ schedule_at finished.status schedule → finished.files ≡ [] → SameFiles shelf.file shelf.file_after → Runs name shelf out err finished
+runs_of words asked name text shelf out err outcome schedule finished is asks named ends told scheduled files put =
+    let same : asked ≡ name = (let e = asks.0 in cc) in
+    let here : EndsRun outcome name shelf out schedule = subst (λ n. EndsRun outcome n shelf out schedule) same ends in
+    let line : Told outcome (encode_utf8_all name) err finished.status = subst (λ t. Told outcome t err finished.status) (named ∙ ap encode_utf8_all same) told in
+    record {
+      outcome = outcome;
+      schedule = schedule;
+      ends = here;
+      told = line;
+      scheduled = scheduled;
+      files = files;
+      nothing_put = put;
+      exactly = exactly_due name shelf out err outcome schedule finished.status here line;
+    }

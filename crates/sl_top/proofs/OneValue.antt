@@ -3,8 +3,8 @@ use Rattle.std.proofs.Common.{◌≡◌, ℕ, ℤ, pos, List, [], ◌∷◌, ◌
 use Rattle.std.proofs.lemmas.List.{append-nil}
 use Rattle.std.specs.List.{fold}
 use Rattle.std.proofs.lemmas.List.Sums.{fold-append}
-use Rattle.sl_num.specs.declared.int_op.IntOp.TheVariants as int
-use Rattle.sl_num.specs.Int.{int_value}
+use Rattle.sl_num.specs.declared.int_op.IntOp.TheVariants as operations
+use Rattle.sl_num.specs.Int.{int}
 use Rattle.sl_top.specs.declared.operator.Operator.{Operator}
 use Rattle.sl_top.specs.declared.operator.Operator.TheVariants as operator
 use Rattle.sl_top.specs.declared.chain.Term.{Term}
@@ -20,7 +20,7 @@ partial left factor = record { left = left; factor = factor }
 
 abbrev joined : Option (ℤ × Operator) → ℤ → ℤ
 joined None y = y
-joined (Some p) y = int_value (int_op p.1) p.0 y
+joined (Some p) y = int (int_op p.1) p.0 y
 
 abbrev total : Partial → ℤ
 total s = joined s.left s.factor
@@ -28,7 +28,7 @@ total s = joined s.left s.factor
 abbrev with_term : Operator → ℕ → Partial → Partial
 with_term operator.Add m s = partial (Some (total s, operator.Add)) (pos m)
 with_term operator.Sub m s = partial (Some (total s, operator.Sub)) (pos m)
-with_term operator.Mul m s = partial s.left (int_value int.Mul s.factor (pos m))
+with_term operator.Mul m s = partial s.left (int operations.Mul s.factor (pos m))
 
 abbrev next : Partial → Term → Partial
 next s t = with_term t.op t.literal s
@@ -52,18 +52,18 @@ total-Value {n} (additive before op m after x y h b a) =
     ap total (fold-append next (partial None (pos n)) before (term op m ∷ after))
     ∙ ap (λ (t : Partial). total (fold next t after)) (with_term-additive op h m s)
     ∙ ap total (fold-Product a (Some (total s, op)))
-    ∙ ap (λ w. int_value (int_op op) w y) (total-Value b)
+    ∙ ap (λ w. int (int_op op) w y) (total-Value b)
 
 -- one more term
 Value-push : {n : ℕ} {rest : List Term} {v : ℤ} → Value n rest v → (op : Operator) (m : ℕ) → (w : ℤ) × Value n (rest ++ term op m ∷ []) w
-Value-push {rest = rest} {v = v} h operator.Add m = (int_value int.Add v (pos m), additive rest operator.Add m [] v (pos m) tt h literal)
-Value-push {rest = rest} {v = v} h operator.Sub m = (int_value int.Sub v (pos m), additive rest operator.Sub m [] v (pos m) tt h literal)
-Value-push (product {rest = rest} {x = x} p) operator.Mul m = (int_value int.Mul x (pos m), product (times rest m p))
+Value-push {rest = rest} {v = v} h operator.Add m = (int operations.Add v (pos m), additive rest operator.Add m [] v (pos m) tt h literal)
+Value-push {rest = rest} {v = v} h operator.Sub m = (int operations.Sub v (pos m), additive rest operator.Sub m [] v (pos m) tt h literal)
+Value-push (product {rest = rest} {x = x} p) operator.Mul m = (int operations.Mul x (pos m), product (times rest m p))
 Value-push {n} (additive before op k after x y h b a) operator.Mul m =
-    let w : ℤ = int_value (int_op op) x (int_value int.Mul y (pos m)) in (
+    let w : ℤ = int (int_op op) x (int operations.Mul y (pos m)) in (
       w,
       subst (λ ts. Value n ts w) (sym (append_assoc before (term op k ∷ after) (term operator.Mul m ∷ [])))
-          (additive before op k (after ++ term operator.Mul m ∷ []) x (int_value int.Mul y (pos m)) h b (times after m a)),
+          (additive before op k (after ++ term operator.Mul m ∷ []) x (int operations.Mul y (pos m)) h b (times after m a)),
     )
 
 -- the terms from the front

@@ -2,8 +2,8 @@
 use Rattle.std.proofs.Common.{◌≡◌, ℕ, ℤ, pos, ◌+◌, ◌*◌, List, [], ◌∷◌, ◌++◌, map, length, sum_by, Some, IsSome, is_some, refl, ap, ◌∙◌, arith, append_assoc, add-zero, length-append}
 use Rattle.std.proofs.lemmas.List.{append-nil}
 use Rattle.std.proofs.lemmas.List.Sums.{sum_by-cons}
-use Rattle.sl_num.specs.declared.int_op.IntOp.TheVariants as int
-use Rattle.sl_num.specs.Int.{int_value}
+use Rattle.sl_num.specs.declared.int_op.IntOp.TheVariants as operations
+use Rattle.sl_num.specs.Int.{int}
 use Rattle.sl_top.specs.declared.operator.Operator.{Operator}
 use Rattle.sl_top.specs.declared.operator.Operator.TheVariants as operator
 use Rattle.ty_prog.specs.declared.event.Event.{Event}
@@ -33,16 +33,16 @@ leaves_then x y v w behind operands trace steps f g =
     ∙ ap (λ n. after_code behind (machine_with (w ∷ v ∷ operands) trace n)) (omega (arith, length-append x y))
 
 -- an operation on what two codes leave
-leaves_operation : (x y : List Instruction) (op : Operator) (v w : ℤ) → Leaves x v → Leaves y w → Leaves (x ++ (y ++ operation_of op ∷ [])) (int_value (int_op op) v w)
+leaves_operation : (x y : List Instruction) (op : Operator) (v w : ℤ) → Leaves x v → Leaves y w → Leaves (x ++ (y ++ operation_of op ∷ [])) (int (int_op op) v w)
 leaves_operation x y op v w f g behind operands trace steps =
     let joined : (x ++ (y ++ operation_of op ∷ [])) ++ behind ≡ (x ++ y) ++ (operation_of op ∷ behind) = simp append_assoc in
     let counted : steps + length (x ++ y) + 1 ≡ steps + length (x ++ (y ++ operation_of op ∷ [])) = omega (arith, length-append x y, length-append x (y ++ operation_of op ∷ []), length-append y (operation_of op ∷ [])) in
     ap (λ c. after_code c (machine_with operands trace steps)) joined
     ∙ leaves_then x y v w (operation_of op ∷ behind) operands trace steps f g
     ∙ operation op v w behind operands trace (steps + length (x ++ y))
-    ∙ ap (λ n. after_code behind (machine_with (int_value (int_op op) v w ∷ operands) trace n)) counted
+    ∙ ap (λ n. after_code behind (machine_with (int (int_op op) v w ∷ operands) trace n)) counted
   where
-    operation : (op : Operator) (v w : ℤ) (behind : List Instruction) (operands : List ℤ) (trace : List Event) (steps : ℕ) → after_code (operation_of op ∷ behind) (machine_with (w ∷ v ∷ operands) trace steps) ≡ after_code behind (machine_with (int_value (int_op op) v w ∷ operands) trace (steps + 1))
+    operation : (op : Operator) (v w : ℤ) (behind : List Instruction) (operands : List ℤ) (trace : List Event) (steps : ℕ) → after_code (operation_of op ∷ behind) (machine_with (w ∷ v ∷ operands) trace steps) ≡ after_code behind (machine_with (int (int_op op) v w ∷ operands) trace (steps + 1))
     operation operator.Add v w behind operands trace steps = refl
     operation operator.Sub v w behind operands trace steps = refl
     operation operator.Mul v w behind operands trace steps = refl
@@ -54,14 +54,14 @@ product_leaves : {n : ℕ} {rest : List Term} {code : List Instruction} → Prod
 product_leaves {n} literal = (pos n, value.literal, leaves_push n)
 product_leaves (times before m {x = code} p) =
     let left = product_leaves p in
-    (int_value int.Mul left.0 (pos m), value.times before m left.1, leaves_operation code (Push (pos m) ∷ []) operator.Mul left.0 (pos m) left.2 (leaves_push m))
+    (int operations.Mul left.0 (pos m), value.times before m left.1, leaves_operation code (Push (pos m) ∷ []) operator.Mul left.0 (pos m) left.2 (leaves_push m))
 
 chain_leaves : {n : ℕ} {rest : List Term} {code : List Instruction} → ChainCode n rest code → (v : ℤ) × Value n rest v × Leaves code v
 chain_leaves (product p) = let left = product_leaves p in (left.0, value.product left.1, left.2)
 chain_leaves (additive before op m after x y h b a) =
     let left = chain_leaves b in
     let right = product_leaves a in
-    (int_value (int_op op) left.0 right.0, value.additive before op m after left.0 right.0 h left.1 right.1, leaves_operation x y op left.0 right.0 left.2 right.2)
+    (int (int_op op) left.0 right.0, value.additive before op m after left.0 right.0 h left.1 right.1, leaves_operation x y op left.0 right.0 left.2 right.2)
 
 -- code that prints these values, from any state and before any other code
 abbrev Prints : List Instruction → List ℤ → Type 0

@@ -1,14 +1,13 @@
-pub mod Causes
-pub mod Code
-pub mod Course
-pub mod Ending
-pub mod Listing
-pub mod Machine
-pub mod Outside
-pub mod Printing
-pub mod Reading
 pub mod Request
-pub mod Told
-pub mod Top
-pub mod Trace
+pub mod Listing
 pub mod Value
+pub mod Trace
+pub mod Printing
+pub mod Outside
+pub mod Outcome
+pub mod Usage
+pub mod Run
+-- For proofs only.
+pub mod Reading
+pub mod Code
+pub mod Machine

@@ -10,14 +10,17 @@ use Rattle.sl_top.specs.declared.chain.Chain.{Chain}
 abbrev pub IsLiteral : ℕ → Type 0
 IsLiteral n = n < 2 ^ 31
 
+-- an operator has a space on each side
 abbrev pub operator_text : Operator → List ℕ
 operator_text Add = codes " + "
 operator_text Sub = codes " - "
 operator_text Mul = codes " * "
 
+-- an operator and the literal behind it
 abbrev pub term_text : Term → List ℕ
 term_text t = operator_text t.op ++ decimal t.literal
 
+-- the first literal, and the terms
 abbrev pub chain_text : Chain → List ℕ
 chain_text c = decimal c.first ++ flat_map term_text c.rest
 
@@ -25,13 +28,15 @@ chain_text c = decimal c.first ++ flat_map term_text c.rest
 abbrev pub HasLiterals : Chain → Type 0
 HasLiterals c = IsLiteral c.first × AllByRecursion (λ t. IsLiteral t.literal) c.rest
 
--- the texts of the lines
+-- the line that prints a chain, without its spaces and its LF
 abbrev pub print_text : Chain → List ℕ
 print_text c = codes "println(" ++ (chain_text c ++ codes ")")
 
+-- the lines behind the head of `main`
 abbrev pub body_texts : List Chain → List (List ℕ)
 body_texts chains = map print_text chains ++ (codes "}" ∷ codes "}" ∷ [])
 
+-- all lines
 abbrev pub listing_texts : List Chain → List (List ℕ)
 listing_texts chains = codes "object Main {" ∷ codes "def main(): Unit = {" ∷ body_texts chains
 

@@ -1,8 +1,8 @@
 -- What the private machine makes of code.
 use Rattle.std.specs.Prelude.{ℕ, ℤ, ◌+◌, List, [], ◌∷◌, ◌++◌, Option, Some, None, option_and_then}
 use Rattle.sl_num.specs.declared.int_op.IntOp.{IntOp}
-use Rattle.sl_num.specs.declared.int_op.IntOp.TheVariants as int
-use Rattle.sl_num.specs.Int.{int_value}
+use Rattle.sl_num.specs.declared.int_op.IntOp.TheVariants as operations
+use Rattle.sl_num.specs.Int.{int}
 use Rattle.ty_prog.specs.declared.event.Event.{Event}
 use Rattle.sl_top.specs.declared.code.Instruction.{Instruction}
 use Rattle.sl_top.specs.declared.code.Instruction.TheVariants.{Push, Add, Sub, Mul, Print, Return}
@@ -17,7 +17,7 @@ machine_with operands trace steps = record { operands = operands; trace = trace;
 abbrev pub after_operation : IntOp → List ℤ → List Event → ℕ → Option Machine
 after_operation op [] trace steps = None
 after_operation op (y ∷ []) trace steps = None
-after_operation op (y ∷ x ∷ below) trace steps = Some (machine_with (int_value op x y ∷ below) trace steps)
+after_operation op (y ∷ x ∷ below) trace steps = Some (machine_with (int op x y ∷ below) trace steps)
 
 -- a printing takes the topmost operand
 abbrev pub after_print : List ℤ → List Event → ℕ → Option Machine
@@ -27,9 +27,9 @@ after_print (x ∷ below) trace steps = Some (machine_with below (trace ++ print
 -- one step; None where an operand is missing
 abbrev pub after_step : Instruction → List ℤ → List Event → ℕ → Option Machine
 after_step (Push x) operands trace steps = Some (machine_with (x ∷ operands) trace (steps + 1))
-after_step Add operands trace steps = after_operation int.Add operands trace (steps + 1)
-after_step Sub operands trace steps = after_operation int.Sub operands trace (steps + 1)
-after_step Mul operands trace steps = after_operation int.Mul operands trace (steps + 1)
+after_step Add operands trace steps = after_operation operations.Add operands trace (steps + 1)
+after_step Sub operands trace steps = after_operation operations.Sub operands trace (steps + 1)
+after_step Mul operands trace steps = after_operation operations.Mul operands trace (steps + 1)
 after_step Print operands trace steps = after_print operands trace (steps + 1)
 after_step Return operands trace steps = Some (machine_with operands trace (steps + 1))
 

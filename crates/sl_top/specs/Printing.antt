@@ -4,9 +4,7 @@ use Rattle.runs.specs.declared.Turn.{Turn}
 use Rattle.sl_io.specs.Files.{Files}
 use Rattle.sl_top.specs.declared.source_file.TheConstants.{SOURCE_LIMIT}
 use Rattle.sl_top.specs.declared.chain.Chain.{Chain}
-use Rattle.sl_top.specs.declared.request.Request.TheVariants.{Run}
 use Rattle.sl_top.specs.Listing.{IsListing}
-use Rattle.sl_top.specs.Request.{AsksFor, defaults}
 use Rattle.sl_top.specs.Trace.{printed_line, trace_text}
 use Rattle.sl_top.specs.Value.{Values, steps_of}
 
@@ -33,10 +31,6 @@ pub record PrintsFile (tells : Bool) (file : Files) (name text : List ℕ) (step
   pub bytes : List ℕ
   pub source : IsSource tells file name bytes
   pub prints : Prints bytes text steps
-
--- the words ask to run the file of this name
-abbrev pub AsksToRun : List (List ℕ) → List ℕ → Type 0
-AsksToRun words name = AsksFor words (Run name defaults)
 
 -- the schedule of a run of thread 1 alone
 abbrev pub one_turn : ℕ → List Turn

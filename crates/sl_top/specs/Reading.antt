@@ -38,12 +38,15 @@ NoDigit bytes = IsAsciiDigit (slice_index bytes 0) → ⊥
 abbrev pub HasDigits : List ℕ → ℕ → List ℕ → Type 0
 HasDigits bytes n rest = (digits : List ℕ) × AllDigits 10 digits × (bytes ≡ digits ++ rest) × (digits_value 10 digits ≡ n)
 
+-- a literal that no digit goes on
 abbrev pub SpellsLiteral : ℕ → List ℕ → List ℕ → Type 0
 SpellsLiteral n bytes rest = IsLiteral n × (bytes ≡ decimal n ++ rest) × NoDigit rest
 
+-- an operator with a space on each side
 abbrev pub SpellsOperator : Operator → List ℕ → List ℕ → Type 0
 SpellsOperator op bytes rest = bytes ≡ operator_text op ++ rest
 
+-- an operator and a literal that no digit goes on
 abbrev pub SpellsTerm : Term → List ℕ → List ℕ → Type 0
 SpellsTerm t bytes rest = IsLiteral t.literal × (bytes ≡ term_text t ++ rest) × NoDigit rest
 

@@ -14,6 +14,7 @@ abbrev pub event_text : Event → List ℕ
 event_text (Line thread text) = encode_utf8_all text ++ 10 ∷ []
 event_text (Uncaught thread class message) = codes "uncaught in thread " ++ (decimal thread ++ (codes ": " ++ (encode_utf8_all class ++ (message_text message ++ 10 ∷ []))))
 
+-- the events, one after another
 abbrev pub trace_text : List Event → List ℕ
 trace_text events = flat_map event_text events
 

@@ -6,9 +6,9 @@ ghost use Rattle.sl_top.specs.declared.code.Instruction.{Instruction};
 ghost use Rattle.sl_top.specs.Listing.{HasLiterals};
 ghost use Rattle.sl_top.specs.Code.{operation_of, ChainCode, ProgramCode, waiting_code, term_code, waiting_after};
 
+use crate::NoMemory;
 use crate::chain::{Chain, Term};
 use crate::code::Instruction;
-use crate::no_memory::NoMemory;
 use crate::operator::Operator;
 use std::alloc::Global;
 
@@ -75,6 +75,7 @@ fn put_waiting(code: &mut Vec<Instruction>, waiting: Option<Operator>) -> Result
     }
 }
 
+// The instruction of an operator.
 fn operation(op: Operator) -> Instruction
     ensures { result ≡ operation_of op }
 {
@@ -85,6 +86,7 @@ fn operation(op: Operator) -> Instruction
     }
 }
 
+// The instruction that brings a literal.
 fn push_of(literal: u32) -> Instruction
     requires { literal < 2 ^ 31 }
     ensures { result ≡ Instruction.Push (pos literal) }

@@ -1,9 +1,8 @@
 ghost use Rattle.std.specs.Prelude.{◌≡◌, []};
-ghost use Rattle.sl_top.specs.Ending.{HasLine};
-ghost use Rattle.sl_top.specs.Outside.{sink_seen};
-ghost use Rattle.sl_top.specs.Told.{Told};
+ghost use Rattle.sl_top.specs.Outcome.{Told, schedule_at};
+ghost use Rattle.sl_top.specs.Outside.{sink_over};
 
-use crate::file_run::Ended;
+use crate::file_run::Scheduled;
 use sl_io::{Sink, SinkFault};
 use sqlite_items::Items;
 use std::alloc::Global;
@@ -20,21 +19,25 @@ pub struct Finished {
     pub files: Items<(Name, Items<u8>)>,
 }
 
-/// Writes the line of an ending, and answers with its status.
-pub fn told<E: Sink>(alloc: Global, err: &mut E, name: &str, ended: Ended) -> Finished
-    ensures told { Told ended.ending name.now
-        (sink_seen (E.contents err.old) (E.contents err.new) (E.faults err.old) (E.faults err.new)) result.status }
-    ensures schedule { result.schedule ≡ ended.schedule }
+/// Writes the line of an outcome, and answers with its status.
+pub fn told<E: Sink>(alloc: Global, err: &mut E, name: &str, scheduled: Scheduled) -> Finished
+    ensures told { Told scheduled.outcome name.now (sink_over E.contents E.faults err.old err.new) result.status }
+    ensures schedule { result.schedule ≡ schedule_at result.status scheduled.schedule }
     ensures files { result.files ≡ [] }
 {
-    let status = match ended.ending.write(err, name) {
-        Ok(()) => ended.ending.status(),
+    let Scheduled { outcome, schedule } = scheduled;
+    let status = match outcome.write(err, name) {
+        Ok(()) => outcome.status(),
         Err(SinkFault::Failed) => 5,
         Err(SinkFault::Memory) => 7,
     };
     Finished {
         status,
-        schedule: ended.schedule,
+        schedule: if status == 7 {
+            Items::new(alloc)
+        } else {
+            schedule
+        },
         files: Items::new(alloc),
     }
 }

@@ -3,8 +3,8 @@
 ghost use Rattle.std.specs.Prelude.{◌≡◌, ◌+◌, ◌^◌, ◌<◌, ◌∷◌, Some, length, IsSome, IfOk, OnOk};
 ghost use Rattle.sl_top.specs.Machine.{machine_with, machine_at_start, after_operation, after_print, after_step, after_code};
 
+use crate::NoMemory;
 use crate::code::Instruction;
-use crate::no_memory::NoMemory;
 use crate::number_text::decimal_text;
 use crate::operands::Operands;
 use sl_num::{IntOp, int};
@@ -37,6 +37,7 @@ pub fn execute(alloc: Global, code: &[Instruction]) -> Result<Machine, NoMemory>
 }
 
 impl Machine {
+    // The machine before its first step.
     fn new(alloc: Global) -> Machine
         ensures { result ≡ machine_at_start }
     {
@@ -78,6 +79,7 @@ impl Machine {
         self.operands.push(int(op, left, right))
     }
 
+    // Prints the topmost operand.
     fn print(&mut self, alloc: Global) -> Result<(), NoMemory>
         requires operands { IsSome (after_print self.old.operands self.old.trace self.old.steps) }
         ensures { OnOk result (after_print self.old.operands self.old.trace self.old.steps ≡ Some self.new) }

@@ -1,8 +1,8 @@
 ghost use Rattle.std.specs.Prelude.{◌≡◌, IfOk};
 ghost use Rattle.std.specs.Fmt.{signed_decimal};
 
-use crate::no_memory::NoMemory;
-use sl_name::Name;
+use crate::NoMemory;
+use sl_base::Name;
 use sl_num::put_i32;
 use std::alloc::Global;
 

@@ -1,7 +1,7 @@
-ghost use Rattle.std.specs.Prelude.{◌≡◌, IfOk, MatchOption, codes, [], ◌∷◌};
+ghost use Rattle.std.specs.Prelude.{◌≡◌, ◌⊎◌, ℕ, List, IfOk, MatchOption, codes, [], ◌∷◌};
 ghost use Rattle.sl_top.specs.Request.{AsksFor, AsksNothing, defaults};
 
-use crate::no_memory::NoMemory;
+use crate::NoMemory;
 use std::alloc::Global;
 use ty_prog::Name;
 
@@ -39,6 +39,7 @@ pub fn request_of(alloc: Global, words: &[Name]) -> Result<Option<Request>, NoMe
     }
 }
 
+// The options of a plain run.
 fn default_options() -> Options
     ensures { result ≡ defaults }
 {
@@ -50,3 +51,9 @@ fn default_options() -> Options
         trace: false,
     }
 }
+
+/// Each list of words asks for one request, or for nothing.
+pub fn asking()
+    ensures either { (words : List (List ℕ)) → ((request : Request) × AsksFor words request) ⊎ AsksNothing words }
+    ensures one { (words : List (List ℕ)) (one other : Request) → AsksFor words one → AsksFor words other → one ≡ other }
+{}

@@ -5,23 +5,23 @@ ghost use Rattle.sl_top.specs.declared.chain.Term.{Term};
 ghost use Rattle.sl_top.specs.Value.{Value, Values, steps_of};
 ghost use Rattle.sl_top.specs.Trace.{printed_line};
 
+use crate::NoMemory;
 use crate::chain::Chain;
 use crate::compiling::compile;
 use crate::machine::{Machine, execute};
-use crate::no_memory::NoMemory;
 use sqlite_items::Items;
 use std::alloc::Global;
 use ty_prog::Event;
 
 /// What a run of the private machine leaves.
 #[derive(Debug, Drop)]
-pub struct Ran {
+pub struct Traced {
     pub trace: Items<Event>,
     pub steps: u32,
 }
 
 /// Compiles the chains and runs their code on the private machine.
-pub fn run(alloc: Global, chains: &[Chain]) -> Result<Ran, NoMemory>
+pub fn run(alloc: Global, chains: &[Chain]) -> Result<Traced, NoMemory>
     requires literals { AllByRecursion HasLiterals chains.now }
     requires fits { steps_of chains.now < 2 ^ 32 }
 
@@ -36,7 +36,7 @@ pub fn run(alloc: Global, chains: &[Chain]) -> Result<Ran, NoMemory>
         trace,
         steps,
     } = execute(alloc, code.as_slice())?;
-    Ok(Ran { trace, steps })
+    Ok(Traced { trace, steps })
 }
 
 /// Every chain has one value.

@@ -1,10 +1,10 @@
-ghost use Rattle.std.specs.Prelude.{◌≡◌, ◌≤◌, IfOk, OnOk, OnErr};
+ghost use Rattle.std.specs.Prelude.{◌≡◌, IfOk, OnOk, OnErr};
 ghost use Rattle.sl_io.specs.Counts.{Rose};
 ghost use Rattle.sl_io.specs.Gains.{Gains, GainsFront};
-ghost use Rattle.sl_io.specs.SinkFault.{OnSinkFailed};
+ghost use Rattle.sl_io.specs.SinkFault.{OnSinkFailed, OnSinkMemory};
 ghost use Rattle.sl_top.specs.Trace.{event_text, trace_text};
 
-use crate::no_memory::NoMemory;
+use crate::NoMemory;
 use itoa::Buffer;
 use sl_io::{Sink, SinkFault, write_all};
 use std::alloc::Global;
@@ -15,7 +15,8 @@ pub fn write_trace<O: Sink>(alloc: Global, out: &mut O, trace: &[Event]) -> Resu
     ensures whole { OnOk result (Gains (O.contents out.old) (trace_text trace.now) (O.contents out.new)) }
     ensures front { OnErr result (GainsFront (O.contents out.old) (trace_text trace.now) (O.contents out.new)) }
     ensures failed { OnSinkFailed result (Rose (O.faults out.old) (O.faults out.new)) }
-    ensures counts { O.faults out.old ≤ O.faults out.new }
+    ensures quiet { OnOk result (O.faults out.new ≡ O.faults out.old) }
+    ensures memory { OnSinkMemory result (O.faults out.new ≡ O.faults out.old) }
 {
     for event in trace {
         write_event(alloc, out, event)?;
@@ -28,7 +29,8 @@ fn write_event<O: Sink>(alloc: Global, out: &mut O, event: &Event) -> Result<(),
     ensures whole { OnOk result (Gains (O.contents out.old) (event_text event.now) (O.contents out.new)) }
     ensures front { OnErr result (GainsFront (O.contents out.old) (event_text event.now) (O.contents out.new)) }
     ensures failed { OnSinkFailed result (Rose (O.faults out.old) (O.faults out.new)) }
-    ensures counts { O.faults out.old ≤ O.faults out.new }
+    ensures quiet { OnOk result (O.faults out.new ≡ O.faults out.old) }
+    ensures memory { OnSinkMemory result (O.faults out.new ≡ O.faults out.old) }
 {
     match text_of(alloc, event) {
         Ok(text) => write_all(out, text.as_slice()),

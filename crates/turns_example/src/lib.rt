@@ -1,5 +1,5 @@
-//! An example of a machine for the programs of `runs`: three threads that count, wait for one another, and get
-//! stuck. Its tests run it by round robin and over given turns.
+//! An example of a machine for the programs of `runs`: three threads that count, wait for one another, and break
+//! down. Its tests run it by round robin and over given turns.
 #![tactic(auto)]
 
 mod task;

@@ -2,16 +2,17 @@
 
 ghost use Rattle.runs.specs.Trying.{able, after};
 ghost use Rattle.std.specs.Prelude.{◌≡◌};
-ghost use Rattle.turns_example.specs.Tasks.{does, put, task_of};
+ghost use Rattle.turns_example.specs.Tasks.{does, with_task, task_of};
 
-use runs::Ability;
+use runs::NextStep;
 
-/// What a thread has to do: make some moves, or wait until another thread has none left, or something that it can't.
+/// What a thread has to do: make some moves, or wait until another thread has none left, or make some moves and
+/// then something that it can't.
 #[derive(Clone, Copy, Debug, PartialEq, Eq)]
 pub enum Task {
     Count { left: u32 },
     Await { thread: u32 },
-    Broken,
+    Breaks { left: u32 },
 }
 
 /// What each of three threads has to do.
@@ -23,7 +24,7 @@ pub struct Tasks {
 }
 
 /// What a thread has to do.
-fn find_task(tasks: Tasks, thread: u32) -> Task
+fn task_of(tasks: Tasks, thread: u32) -> Task
     ensures { result ≡ task_of tasks thread }
 {
     match thread {
@@ -36,7 +37,7 @@ fn find_task(tasks: Tasks, thread: u32) -> Task
 
 /// The tasks after a thread was given another.
 fn with_task(tasks: Tasks, thread: u32, task: Task) -> Tasks
-    ensures { result ≡ put tasks thread task }
+    ensures { result ≡ with_task tasks thread task }
 {
     match thread {
         1 => Tasks { one: task, ..tasks },
@@ -50,23 +51,27 @@ fn with_task(tasks: Tasks, thread: u32, task: Task) -> Tasks
 }
 
 /// What a thread can do, and the tasks that it leaves.
-pub fn attempt(tasks: Tasks, thread: u32) -> (Ability, Tasks)
+pub fn attempt(tasks: Tasks, thread: u32) -> (NextStep, Tasks)
     ensures ability { result.0 ≡ able (does tasks thread (task_of tasks thread)) }
     ensures state { result.1 ≡ after tasks (does tasks thread (task_of tasks thread)) }
 {
-    match find_task(tasks, thread) {
-        Task::Count { left: 0 } => (Ability::Ended, tasks),
+    match task_of(tasks, thread) {
+        Task::Count { left: 0 } => (NextStep::Ended, tasks),
         Task::Count { left } => {
             let next = Task::Count { left: left - 1 };
-            (Ability::Moves, with_task(tasks, thread, next))
+            (NextStep::Moves, with_task(tasks, thread, next))
         }
-        Task::Await { thread: other } => match find_task(tasks, other) {
+        Task::Await { thread: other } => match task_of(tasks, other) {
             Task::Count { left: 0 } => {
                 let done = Task::Count { left: 0 };
-                (Ability::Moves, with_task(tasks, thread, done))
+                (NextStep::Moves, with_task(tasks, thread, done))
             }
-            _ => (Ability::Waits, tasks),
+            _ => (NextStep::Waits, tasks),
         },
-        Task::Broken => (Ability::Stuck, tasks),
+        Task::Breaks { left: 0 } => (NextStep::Stuck, tasks),
+        Task::Breaks { left } => {
+            let next = Task::Breaks { left: left - 1 };
+            (NextStep::Moves, with_task(tasks, thread, next))
+        }
     }
 }

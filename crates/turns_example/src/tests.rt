@@ -1,6 +1,6 @@
 use crate::task::{Task, Tasks};
 use crate::trio::trio_of;
-use runs::{Ending, NoMemory, Turn, given, reported_cycle, round_robin, run};
+use runs::{Ending, NoMemory, Turn, ending_of, given, reported_cycle, round_robin, run};
 use std::alloc::Global;
 use std::test::Fail;
 
@@ -28,6 +28,10 @@ const ONE: Task = Task::Count { left: 1 };
 
 const THREE: Task = Task::Count { left: 3 };
 
+const BROKEN: Task = Task::Breaks { left: 0 };
+
+const BREAKS: Task = Task::Breaks { left: 1 };
+
 const AWAITS_1: Task = Task::Await { thread: 1 };
 
 const AWAITS_2: Task = Task::Await { thread: 2 };
@@ -46,7 +50,7 @@ fn is_robin(alloc: Global, case: Robin) -> Result<bool, NoMemory> {
 #[test]
 fn robins(rt: HostRuntime) -> Result<(), Fail> {
     let mixed = tasks!(THREE, AWAITS_1, ONE);
-    let cases: [Robin; 8] = [
+    let cases: [Robin; 11] = [
         (
             mixed,
             1,
@@ -66,18 +70,40 @@ fn robins(rt: HostRuntime) -> Result<(), Fail> {
             Ending::Deadlock,
         ),
         (
-            tasks!(AWAITS_2, ONE, Task::Broken),
+            tasks!(AWAITS_2, ONE, BROKEN),
             1,
             9,
             turns![2 1],
             Ending::Stuck { thread: 3 },
         ),
         (
-            tasks!(ONE, Task::Broken, Task::Broken),
+            tasks!(ONE, BROKEN, BROKEN),
             1,
             1,
             turns![1 1],
             Ending::Stuck { thread: 2 },
+        ),
+        // a thread that is stuck in its own turn, also where the budget is reached, and one that is stuck behind it
+        (
+            tasks!(BREAKS, THREE, NONE),
+            2,
+            9,
+            turns![1 1],
+            Ending::Stuck { thread: 1 },
+        ),
+        (
+            tasks!(BREAKS, THREE, NONE),
+            2,
+            1,
+            turns![1 1],
+            Ending::Stuck { thread: 1 },
+        ),
+        (
+            tasks!(BREAKS, THREE, NONE),
+            1,
+            9,
+            turns![1 1, 2 1],
+            Ending::Stuck { thread: 1 },
         ),
     ];
     for case in cases {
@@ -97,7 +123,7 @@ fn is_given(alloc: Global, case: Row) -> Result<bool, NoMemory> {
 #[test]
 fn given_turns(rt: HostRuntime) -> Result<(), Fail> {
     let mixed = tasks!(THREE, AWAITS_1, ONE);
-    let cases: [Row; 6] = [
+    let cases: [Row; 7] = [
         // turns that make no move, and one that makes fewer than it may
         (
             mixed,
@@ -124,11 +150,19 @@ fn given_turns(rt: HostRuntime) -> Result<(), Fail> {
         ),
         (mixed, turns![1 3, 4 1], 2, turns![1 2], Ending::Budget),
         (
-            tasks!(ONE, Task::Broken, NONE),
+            tasks!(ONE, BROKEN, NONE),
             turns![1 1, 2 1, 4 1],
             9,
             turns![1 1],
             Ending::Stuck { thread: 2 },
+        ),
+        // a turn that has made all its moves is over
+        (
+            tasks!(BREAKS, ONE, NONE),
+            turns![1 1, 2 1, 1 2, 2 1],
+            9,
+            turns![1 1, 2 1],
+            Ending::Stuck { thread: 1 },
         ),
     ];
     for case in cases {
@@ -146,6 +180,7 @@ fn runs(rt: HostRuntime) -> Result<(), Fail> {
         turns![1 2, 2 4294967295, 7 1, 1 9, 2 1],
     )?;
     assert_eq!(rt; ran.now, tasks!(NONE, NONE, ONE));
+    assert_eq!(rt; ending_of(&ran), None);
     Ok(())
 }
 

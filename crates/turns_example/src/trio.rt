@@ -4,7 +4,7 @@ ghost use Rattle.std.specs.Prelude.{◌≡◌};
 ghost use Rattle.turns_example.specs.Tasks.{trio};
 
 use crate::task::{Tasks, attempt};
-use runs::{Ability, NoMemory, Threaded};
+use runs::{NextStep, NoMemory, Standing, Threaded};
 use std::alloc::Global;
 
 /// Three threads, their first tasks and those that are left.
@@ -24,7 +24,7 @@ pub fn trio_of(tasks: Tasks) -> Trio
     }
 }
 
-impl Threaded for Trio {
+impl Standing for Trio {
     ghost use Rattle.turns_example.specs.declared.task.Tasks.{Tasks};
 
     ghost Event = { Unit {0} };
@@ -41,12 +41,14 @@ impl Threaded for Trio {
         3
     }
 
-    fn what_next(&self, thread: u32) -> Ability {
+    fn what_next(&self, thread: u32) -> NextStep {
         let (can, _left) = attempt(self.now, thread);
         can
     }
+}
 
-    fn step(&mut self, _alloc: Global, thread: u32) -> Result<Ability, NoMemory> {
+impl Threaded for Trio {
+    fn step(&mut self, _alloc: Global, thread: u32) -> Result<NextStep, NoMemory> {
         let (can, left) = attempt(self.now, thread);
         self.now = left;
         Ok(can)

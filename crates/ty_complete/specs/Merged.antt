@@ -18,5 +18,6 @@ pub record IsCarried (classes : List Class) (number : ℕ) (class : Class) : Typ
   pub is : class.linear ≡ number ∷ merged classes (reverse class.parents)
   pub lacks : is_in (merged classes (reverse class.parents)) number ≡ false
 
+-- each class carries its list
 abbrev pub AreCarried : List Class → Type 0
 AreCarried classes = (number : ℕ) (d : Class) → number < length classes → IsCarried classes number (slice_index_or classes number d)

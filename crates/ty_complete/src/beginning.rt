@@ -4,10 +4,10 @@ ghost use Rattle.std.specs.Prelude.{◌≡◌, ◌↔◌, IsTrue, IfOk, take, le
 ghost use Rattle.ty_prog.specs.Prelude.{prelude};
 ghost use Rattle.ty_complete.specs.Complete.{BeginsWithPrelude};
 
-use crate::no_memory::NoMemory;
+use crate::NoMemory;
 use std::alloc::Global;
 use ty_prog::{Class, Program, prelude};
-use ty_same::same_classes;
+use ty_walk::same_classes;
 
 /// Whether the first classes of a program are those of the prelude.
 pub fn begins_with_prelude(alloc: Global, p: &Program) -> Result<bool, NoMemory>

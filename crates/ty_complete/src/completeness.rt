@@ -3,43 +3,49 @@
 ghost use Rattle.std.specs.Prelude.{◌↔◌, IfOk, IsTrue};
 ghost use Rattle.ty_conform.specs.Carried.{HasLinearisations};
 ghost use Rattle.ty_flow.specs.SetFirst.{LocalsAreSetFirst};
-ghost use Rattle.ty_complete.specs.Complete.{BeginsWithPrelude, FilesDiffer, NamesFit, TextsFit, ParametersFit, MembersDiffer, ParentsFit, NewIsConcrete, FindsAll, HasMain, Complete};
+ghost use Rattle.ty_complete.specs.Complete.{BeginsWithPrelude, FilesDiffer, NamesFit, TextsFit, ParametersFit, OnlyClassesHaveParameters, TypesAreDeclared, MethodsFitAnyRef, MembersDiffer, ParentsFit, ParentsAreNoObjects, ParentsAreNoThreads, NewIsConcrete, PreludeIsClosed, FindsAll, HasMain, Complete};
 
+use crate::NoMemory;
+use crate::any_ref::methods_fit_any_ref;
 use crate::beginning::begins_with_prelude;
 use crate::creation::new_is_concrete;
+use crate::declared_types::types_are_declared;
 use crate::entry::has_main;
 use crate::files::files_differ;
 use crate::found::finds_all;
 use crate::linearised::has_linearisations;
 use crate::members::members_differ;
 use crate::names::names_fit;
-use crate::no_memory::NoMemory;
-use crate::parameters::parameters_fit;
-use crate::parents::parents_fit;
+use crate::parameters::{only_classes_have_parameters, parameters_fit};
+use crate::parents::{parents_are_no_objects, parents_are_no_threads, parents_fit};
+use crate::prelude_fields::prelude_is_closed;
 use crate::texts::texts_fit;
 use std::alloc::Global;
 use ty_flow::locals_are_set_first;
 use ty_prog::Program;
 
-/// Whether a program is complete. Errors: want of memory, also for a node of 2^32 children or more.
+/// Whether a program is complete. Errors: want of memory.
 pub fn is_complete(alloc: Global, p: &Program) -> Result<bool, NoMemory>
     ensures { IfOk result (λ answer. IsTrue answer ↔ Complete p.now) }
 {
-    if !begins_with_prelude(alloc, p)? {
+    if !members_fit(p) {
         return Ok(false);
     }
-    if !members_fit(p) {
+    if !parents_are_right(p) {
+        return Ok(false);
+    }
+    if !names_are_right(alloc, p)? {
         return Ok(false);
     }
     if !classes_fit(alloc, p)? {
         return Ok(false);
     }
-    nodes_fit(p)
+    Ok(nodes_fit(p))
 }
 
-// What one class alone tells.
+// What the members of each class tell.
 fn members_fit(p: &Program) -> bool
-    ensures { IsTrue result ↔ (NamesFit p.now × ParametersFit p.now × MembersDiffer p.now × ParentsFit p.now) }
+    ensures { IsTrue result ↔ (NamesFit p.now × ParametersFit p.now × OnlyClassesHaveParameters p.now × MethodsFitAnyRef p.now × MembersDiffer p.now) }
 {
     if !names_fit(p) {
         return false;
@@ -47,37 +53,60 @@ fn members_fit(p: &Program) -> bool
     if !parameters_fit(p) {
         return false;
     }
-    if !members_differ(p) {
+    if !only_classes_have_parameters(p) {
         return false;
     }
-    parents_fit(p)
+    if !methods_fit_any_ref(p) {
+        return false;
+    }
+    members_differ(p)
+}
+
+// What the parents of each class tell.
+fn parents_are_right(p: &Program) -> bool
+    ensures { IsTrue result ↔ (ParentsFit p.now × ParentsAreNoObjects p.now × ParentsAreNoThreads p.now) }
+{
+    parents_fit(p) && parents_are_no_objects(p) && parents_are_no_threads(p)
+}
+
+// What the names and types of classes tell.
+fn names_are_right(alloc: Global, p: &Program) -> Result<bool, NoMemory>
+    ensures { IfOk result (λ answer. IsTrue answer ↔ (BeginsWithPrelude p.now × FilesDiffer p.now × TypesAreDeclared p.now)) }
+{
+    if !begins_with_prelude(alloc, p)? {
+        return Ok(false);
+    }
+    if !files_differ(alloc, p)? {
+        return Ok(false);
+    }
+    types_are_declared(alloc, p)
 }
 
 // What the classes tell together.
 fn classes_fit(alloc: Global, p: &Program) -> Result<bool, NoMemory>
-    ensures { IfOk result (λ answer. IsTrue answer ↔ (FilesDiffer p.now × HasLinearisations p.now × HasMain p.now)) }
+    ensures { IfOk result (λ answer. IsTrue answer ↔ (HasLinearisations p.now × HasMain p.now × FindsAll p.now)) }
 {
-    if !files_differ(alloc, p)? {
-        return Ok(false);
-    }
     if !has_linearisations(alloc, p)? {
         return Ok(false);
     }
-    has_main(alloc, p)
+    if !has_main(alloc, p)? {
+        return Ok(false);
+    }
+    finds_all(p)
 }
 
 // What the nodes of trees tell.
-fn nodes_fit(p: &Program) -> Result<bool, NoMemory>
-    ensures { IfOk result (λ answer. IsTrue answer ↔ (TextsFit p.now × NewIsConcrete p.now × FindsAll p.now × LocalsAreSetFirst p.now)) }
+fn nodes_fit(p: &Program) -> bool
+    ensures { IsTrue result ↔ (TextsFit p.now × NewIsConcrete p.now × PreludeIsClosed p.now × LocalsAreSetFirst p.now) }
 {
-    if !texts_fit(p)? {
-        return Ok(false);
+    if !texts_fit(p) {
+        return false;
     }
-    if !new_is_concrete(p)? {
-        return Ok(false);
+    if !new_is_concrete(p) {
+        return false;
     }
-    if !finds_all(p)? {
-        return Ok(false);
+    if !prelude_is_closed(p) {
+        return false;
     }
-    Ok(locals_are_set_first(p))
+    locals_are_set_first(p)
 }

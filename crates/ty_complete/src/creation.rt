@@ -1,23 +1,22 @@
 //! Whether objects are made of concrete classes alone. Plain, for tests on small programs.
 
-ghost use Rattle.std.specs.Prelude.{◌≡◌, ◌↔◌, IsTrue, IfOk, true, slice_get, option_map};
+ghost use Rattle.std.specs.Prelude.{◌≡◌, ◌↔◌, IsTrue, true, slice_get, option_map};
 ghost use Rattle.std.specs.Option.{unwrap_or};
 ghost use Rattle.ty_complete.specs.Complete.{is_made_kind, made, made_fits, NewIsConcrete};
 ghost use Rattle.ty_prog.specs.Node.{tree_of};
 
-use crate::no_memory::NoMemory;
 use sqlite_items::at;
 use ty_prog::{Class, Expr, Kind, Node, Program};
 use ty_walk::{Rule, holds_in_program};
 
-/// Whether no node makes an object of a trait or of an abstract class (SLS 5.1, 6.10).
-pub fn new_is_concrete(p: &Program) -> Result<bool, NoMemory>
-    ensures { IfOk result (λ answer. IsTrue answer ↔ NewIsConcrete p.now) }
+/// Whether no node makes an object of a trait, of an abstract class or of an object (SLS 5.1, 5.5, 6.10).
+pub fn new_is_concrete(p: &Program) -> bool
+    ensures { IsTrue result ↔ NewIsConcrete p.now }
 {
-    Ok(holds_in_program(&ConcreteNew { p }, p)?)
+    holds_in_program(&ConcreteNew { p }, p)
 }
 
-// A node that makes an object names no trait and no abstract class.
+// A node that makes an object names no trait, no abstract class and no object.
 #[derive(Clone, Copy)]
 struct ConcreteNew<'a> {
     p: &'a Program,
@@ -59,5 +58,5 @@ fn is_concrete(classes: &[Class], class: u32) -> bool
 fn is_made_kind(kind: Kind) -> bool
     ensures { result ≡ is_made_kind kind }
 {
-    !matches!(kind, Kind::Trait | Kind::Abstract)
+    matches!(kind, Kind::Class)
 }

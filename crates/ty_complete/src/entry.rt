@@ -4,7 +4,7 @@ ghost use Rattle.std.specs.Prelude.{◌≡◌, ◌↔◌, IsTrue, IfOk};
 ghost use Rattle.ty_complete.specs.Complete.{is_entry_list, is_unit, is_entry, begins_with, HasMain};
 ghost use Rattle.ty_conform.specs.Kinds.{is_object};
 
-use crate::no_memory::NoMemory;
+use crate::NoMemory;
 use sqlite_items::at;
 use std::alloc::Global;
 use ty_conform::is_object;
@@ -44,7 +44,8 @@ fn is_entry(classes: &[Class], found: (u32, u32)) -> bool
     }
 }
 
-fn is_entry_list(params: &[Ty]) -> bool
+/// Whether there is no parameter, or one of type Array.
+pub(crate) fn is_entry_list(params: &[Ty]) -> bool
     ensures { result ≡ is_entry_list params.now }
 {
     match params {

@@ -4,9 +4,9 @@ ghost use Rattle.std.specs.Prelude.{◌≡◌, ◌↔◌, IsTrue, IfOk};
 ghost use Rattle.ty_complete.specs.Complete.{HasObjects, FindsIts, FindsAll};
 ghost use Rattle.ty_complete.specs.Finding.{FindsIn};
 
+use crate::NoMemory;
 use crate::agreeing::all_agree;
 use crate::methods_found::{all_found, supers_found};
-use crate::no_memory::NoMemory;
 use crate::objects::lacks_objects;
 use sqlite_items::at;
 use ty_prog::Program;
@@ -21,40 +21,36 @@ pub fn finds_all(p: &Program) -> Result<bool, NoMemory>
         if number > u32::MAX as usize {
             return Err(NoMemory);
         }
-        if !finds_where_it_must(p, number as u32)? {
+        if !finds_where_it_must(p, number as u32) {
             return Ok(false);
         }
     }
     Ok(true)
 }
 
-fn finds_where_it_must(p: &Program, class: u32) -> Result<bool, NoMemory>
-    ensures { IfOk result (λ answer. IsTrue answer ↔ (HasObjects p.now class → FindsIts p.now class)) }
+fn finds_where_it_must(p: &Program, class: u32) -> bool
+    ensures { IsTrue result ↔ (HasObjects p.now class → FindsIts p.now class) }
 {
-    if lacks_objects(p, class)? {
-        return Ok(true);
+    if lacks_objects(p, class) {
+        return true;
     }
     finds_its(p, class)
 }
 
-fn finds_its(p: &Program, class: u32) -> Result<bool, NoMemory>
-    ensures { IfOk result (λ answer. IsTrue answer ↔ FindsIts p.now class) }
+fn finds_its(p: &Program, class: u32) -> bool
+    ensures { IsTrue result ↔ FindsIts p.now class }
 {
     let classes = p.classes.as_slice();
     match at(classes, class as usize) {
         Some(found) => finds_in(p, class, found.linear.as_slice()),
-        None => Ok(true),
+        None => true,
     }
 }
 
-fn finds_in(p: &Program, class: u32, linear: &[u32]) -> Result<bool, NoMemory>
-    ensures { IfOk result (λ answer. IsTrue answer ↔ FindsIn p.now class linear.now) }
+fn finds_in(p: &Program, class: u32, linear: &[u32]) -> bool
+    ensures { IsTrue result ↔ FindsIn p.now class linear.now }
 {
-    if !all_found(p, class, linear) {
-        return Ok(false);
-    }
-    if !all_agree(p.classes.as_slice(), linear) {
-        return Ok(false);
-    }
-    supers_found(p, class, linear)
+    all_found(p, class, linear)
+        && all_agree(p.classes.as_slice(), linear)
+        && supers_found(p, class, linear)
 }

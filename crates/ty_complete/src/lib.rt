@@ -3,9 +3,11 @@
 #![tactic(auto)]
 
 mod agreeing;
+mod any_ref;
 mod beginning;
 mod completeness;
 mod creation;
+mod declared_types;
 mod entry;
 mod files;
 mod found;
@@ -13,28 +15,29 @@ mod linearised;
 mod members;
 mod methods_found;
 mod names;
-mod no_memory;
 mod objects;
 mod own_classes;
 mod parameters;
 mod parents;
 mod plain_text;
-#[cfg(test)]
-mod tests_found;
-#[cfg(test)]
-mod tests_plain;
+mod prelude_fields;
 mod texts;
+mod word;
 
+pub use any_ref::methods_fit_any_ref;
 pub use beginning::begins_with_prelude;
 pub use completeness::is_complete;
 pub use creation::new_is_concrete;
+pub use declared_types::types_are_declared;
 pub use entry::has_main;
-pub use files::files_differ;
+pub use files::{files_differ, longer};
 pub use found::finds_all;
 pub use linearised::has_linearisations;
 pub use members::members_differ;
 pub use names::names_fit;
-pub use no_memory::NoMemory;
-pub use parameters::parameters_fit;
-pub use parents::parents_fit;
+pub use parameters::{only_classes_have_parameters, parameters_fit};
+pub use parents::{parents_are_no_objects, parents_are_no_threads, parents_fit};
+pub use prelude_fields::prelude_is_closed;
+pub use sl_base::NoMemory;
 pub use texts::texts_fit;
+pub use word::{Word, words};

@@ -7,7 +7,7 @@ ghost use Rattle.ty_linear.specs.Linear.{is_in, ◌+>◌};
 ghost use Rattle.ty_conform.specs.Carried.{HasLinearisations};
 ghost use Rattle.ty_complete.specs.Merged.{carried, merged, IsCarried, AreCarried};
 
-use crate::no_memory::NoMemory;
+use crate::NoMemory;
 use sqlite_items::{Items, at};
 use std::alloc::{AllocError, Global};
 use ty_linear::linearisations;

@@ -1,6 +1,6 @@
 //! Whether a class finds what it inherits and what `super` means in it. Plain, for tests on small programs.
 
-ghost use Rattle.std.specs.Prelude.{◌≡◌, ◌↔◌, IsTrue, IfOk, true, is_some, option_map};
+ghost use Rattle.std.specs.Prelude.{◌≡◌, ◌↔◌, IsTrue, true, is_some, option_map};
 ghost use Rattle.std.specs.List.{list_all};
 ghost use Rattle.std.specs.Option.{unwrap_or};
 ghost use Rattle.ty_prog.specs.declared.expr.Expr.{out-Expr};
@@ -9,7 +9,6 @@ ghost use Rattle.ty_walk.specs.Everywhere.{AllNodesOf};
 ghost use Rattle.ty_complete.specs.Complete.{level_super};
 ghost use Rattle.ty_complete.specs.Finding.{method_found, methods_found, super_found, HoldsOf, SupersFound};
 
-use crate::no_memory::NoMemory;
 use sqlite_items::at;
 use ty_prog::{Expr, Method, Node, Program, find, super_find};
 use ty_walk::{Rule, holds_in_class};
@@ -43,23 +42,20 @@ fn method_found(p: &Program, class: u32, method: &Method) -> bool
 }
 
 /// Whether what each class of a list calls by `super` is found from the class.
-pub(crate) fn supers_found(p: &Program, class: u32, linear: &[u32]) -> Result<bool, NoMemory>
-    ensures { IfOk result (λ answer. IsTrue answer ↔ SupersFound p.now class linear.now) }
+pub(crate) fn supers_found(p: &Program, class: u32, linear: &[u32]) -> bool
+    ensures { IsTrue result ↔ SupersFound p.now class linear.now }
 {
-    for number in linear {
-        if !supers_found_of(p, class, *number)? {
-            return Ok(false);
-        }
-    }
-    Ok(true)
+    linear
+        .iter()
+        .all(|number| supers_found_of(p, class, *number))
 }
 
-fn supers_found_of(p: &Program, class: u32, number: u32) -> Result<bool, NoMemory>
-    ensures { IfOk result (λ answer. IsTrue answer ↔ HoldsOf p.now.classes (AllNodesOf (λ node. IsTrue (super_found p.now class node))) number) }
+fn supers_found_of(p: &Program, class: u32, number: u32) -> bool
+    ensures { IsTrue result ↔ HoldsOf p.now.classes (AllNodesOf (λ node. IsTrue (super_found p.now class node))) number }
 {
     match at(p.classes.as_slice(), number as usize) {
-        Some(above) => Ok(holds_in_class(&FoundSuper { p, class }, above)?),
-        None => Ok(true),
+        Some(above) => holds_in_class(&FoundSuper { p, class }, above),
+        None => true,
     }
 }
 

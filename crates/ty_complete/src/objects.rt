@@ -1,23 +1,22 @@
 //! Whether a program can have objects of a class. Plain, for tests on small programs.
 
-ghost use Rattle.std.specs.Prelude.{◌≡◌, ◌↔◌, IsTrue, IfOk};
+ghost use Rattle.std.specs.Prelude.{◌≡◌, ◌↔◌, IsTrue};
 ghost use Rattle.ty_complete.specs.Complete.{HasObjects};
 ghost use Rattle.ty_complete.specs.Finding.{makes_other};
 
 use crate::creation::made;
-use crate::no_memory::NoMemory;
 use ty_conform::is_object;
 use ty_prog::{Node, Program};
 use ty_walk::{Rule, holds_in_program};
 
 /// Whether the class is no object and no node makes an object of it.
-pub(crate) fn lacks_objects(p: &Program, class: u32) -> Result<bool, NoMemory>
-    ensures { IfOk result (λ answer. IsTrue answer ↔ (HasObjects p.now class → ⊥)) }
+pub(crate) fn lacks_objects(p: &Program, class: u32) -> bool
+    ensures { IsTrue result ↔ (HasObjects p.now class → ⊥) }
 {
     if is_object(p.classes.as_slice(), class) {
-        return Ok(false);
+        return false;
     }
-    Ok(holds_in_program(&OthersMade { class }, p)?)
+    holds_in_program(&OthersMade { class }, p)
 }
 
 // A node doesn't make an object of the class.

@@ -1,11 +1,12 @@
 //! Whether the parents of each class fit each other. Plain, for tests on small programs.
 
-ghost use Rattle.std.specs.Prelude.{◌≡◌, ◌↔◌, IsTrue, drop};
+ghost use Rattle.std.specs.Prelude.{◌≡◌, ◌↔◌, IsTrue, drop, not, nat_eq};
 ghost use Rattle.std.specs.List.{list_all};
-ghost use Rattle.ty_complete.specs.Complete.{superclass_fits, fits_below, parents_fit, ParentsFit};
-ghost use Rattle.ty_conform.specs.Kinds.{is_trait, superclass, superclass_of, reaches};
+ghost use Rattle.ty_complete.specs.Complete.{superclass_fits, fits_below, parents_fit, ParentsFit, ParentsAreNoObjects, ParentsAreNoThreads, THREAD};
+ghost use Rattle.ty_conform.specs.Kinds.{is_trait, is_object, superclass, superclass_of, reaches};
 
-use ty_conform::{is_trait, reaches, superclass, superclass_of};
+use ty_conform::{is_object, is_trait, reaches, superclass, superclass_of};
+use ty_prog::prelude_number::THREAD;
 use ty_prog::{Class, Program};
 
 /// Whether each parent after the first is a trait, and the superclass of each trait is in the linearisation of the
@@ -66,4 +67,36 @@ fn superclass_fits(classes: &[Class], above: Option<u32>, wanted: Option<u32>) -
         Some(wanted) => reaches(classes, above, wanted),
         None => true,
     }
+}
+
+/// Whether no class has an object as a parent (SLS 5.5).
+pub fn parents_are_no_objects(p: &Program) -> bool
+    ensures { IsTrue result ↔ ParentsAreNoObjects p.now }
+{
+    let classes = p.classes.as_slice();
+    classes
+        .iter()
+        .all(|class| are_no_objects(classes, class.parents.as_slice()))
+}
+
+fn are_no_objects(classes: &[Class], parents: &[u32]) -> bool
+    ensures { result ≡ list_all (λ parent. not (is_object classes.now parent)) parents.now }
+{
+    parents.iter().all(|parent| !is_object(classes, *parent))
+}
+
+/// Whether no class has Thread as a parent.
+pub fn parents_are_no_threads(p: &Program) -> bool
+    ensures { IsTrue result ↔ ParentsAreNoThreads p.now }
+{
+    p.classes
+        .as_slice()
+        .iter()
+        .all(|class| are_no_threads(class.parents.as_slice()))
+}
+
+fn are_no_threads(parents: &[u32]) -> bool
+    ensures { result ≡ list_all (λ parent. not (nat_eq THREAD parent)) parents.now }
+{
+    parents.iter().all(|parent| THREAD != *parent)
 }

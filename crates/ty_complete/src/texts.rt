@@ -1,19 +1,18 @@
 //! Whether the texts of a program fit. Plain, for tests on small programs.
 
-ghost use Rattle.std.specs.Prelude.{◌≡◌, ◌↔◌, IsTrue, IfOk, nat_le, length};
+ghost use Rattle.std.specs.Prelude.{◌≡◌, ◌↔◌, IsTrue, nat_le, length};
 ghost use Rattle.std.specs.Str.{chars};
 ghost use Rattle.ty_complete.specs.Complete.{level_text_fits, text_fits, TextsFit};
 ghost use Rattle.ty_prog.specs.declared.expr.Expr.{out-Expr};
 
-use crate::no_memory::NoMemory;
 use ty_prog::{Expr, Name, Node, Program};
 use ty_walk::{Rule, holds_in_program};
 
 /// Whether each text has at most 10,000 characters, whose bytes a class file's constant holds (JVMS 4.4.7).
-pub fn texts_fit(p: &Program) -> Result<bool, NoMemory>
-    ensures { IfOk result (λ answer. IsTrue answer ↔ TextsFit p.now) }
+pub fn texts_fit(p: &Program) -> bool
+    ensures { IsTrue result ↔ TextsFit p.now }
 {
-    Ok(holds_in_program(&FittingTexts, p)?)
+    holds_in_program(&FittingTexts, p)
 }
 
 // A node that is a text has at most 10,000 characters.

@@ -1,7 +1,7 @@
 //! What a class is by its number.
 
 ghost use Rattle.std.specs.Prelude.{◌≡◌};
-ghost use Rattle.ty_conform.specs.Kinds.{is_trait_kind, is_trait, is_object, superclass, superclass_of, reaches, is_known};
+ghost use Rattle.ty_conform.specs.Kinds.{is_trait_kind, is_trait, is_object, superclass, superclass_of, is_superclass, reaches, is_known};
 
 use crate::conforming::inherits;
 use sqlite_items::at;
@@ -58,6 +58,13 @@ pub fn superclass_of(classes: &[Class], class: u32) -> Option<u32>
         Some(class) => superclass(classes, class.parents.as_slice()),
         None => None,
     }
+}
+
+/// Whether the second class is in the chain of superclasses of the first (SLS 5.1).
+pub fn is_superclass(classes: &[Class], lower: u32, upper: u32) -> bool
+    ensures { result ≡ is_superclass classes.now lower upper }
+{
+    lower != upper && inherits(classes, lower, upper) && !is_trait(classes, upper)
 }
 
 /// Whether the linearisation of a superclass has a class; that of AnyRef, which is None, has none.

@@ -6,10 +6,10 @@ mod conforming;
 mod joining;
 mod kinds;
 mod laws;
-#[cfg(test)]
-mod tests;
 
 pub use conforming::{conforms, inherits};
 pub use joining::join;
-pub use kinds::{is_known, is_object, is_trait, is_trait_kind, reaches, superclass, superclass_of};
+pub use kinds::{
+    is_known, is_object, is_superclass, is_trait, is_trait_kind, reaches, superclass, superclass_of,
+};
 pub use laws::{carried_linearisations, conformance, inherited_members, joins};

@@ -1,4 +1,6 @@
-pub mod Parts
+-- What a reader must believe.
 pub mod SetFirst
-pub mod Settled
 pub mod Uses
+-- For proofs only.
+pub mod Parts
+pub mod Settled

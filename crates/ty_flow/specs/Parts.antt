@@ -12,11 +12,14 @@ abbrev pub each_in_order : List Passage → Passage
 each_in_order passages = in_order (map (λ u. u) passages)
 
 module _ (local : ℕ) where
+  -- what a handler does with the local
   abbrev pub handler_passage : Catch → Passage
   handler_passage = fold-Catch Passage Passage Passage Passage (handler_step local) (expr_step local) (pattern_step local) (case_step local)
 
+  -- what a pattern does
   abbrev pub pattern_passage : Pattern → Passage
   pattern_passage = fold-Pattern Passage Passage Passage Passage (handler_step local) (expr_step local) (pattern_step local) (case_step local)
 
+  -- what a case does on the way on which it is taken
   abbrev pub case_passage : Case → Passage
   case_passage = fold-Case Passage Passage Passage Passage (handler_step local) (expr_step local) (pattern_step local) (case_step local)

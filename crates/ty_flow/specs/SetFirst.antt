@@ -18,16 +18,20 @@ abbrev pub BodyIsSetFirst : Method → Option Expr → Type 0
 BodyIsSetFirst method None = Unit
 BodyIsSetFirst method (Some body) = AreSetFirst (length method.params) method.locals (ExprTree body)
 
+-- the same of a method
 abbrev pub MethodIsSetFirst : Method → Type 0
 MethodIsSetFirst method = BodyIsSetFirst method method.body
 
+-- the same of the initialiser of a cell
 abbrev pub CellIsSetFirst : Cell → Type 0
 CellIsSetFirst cell = AreSetFirst 0 cell.locals (ExprTree cell.init)
 
+-- the same of all bodies of a class
 pub record ClassIsSetFirst (class : Class) : Type 0 where
   pub constructor : AreSetFirst (length class.params) class.locals (ConstructorTree class)
   pub cells : All CellIsSetFirst class.cells
   pub methods : All MethodIsSetFirst class.methods
 
+-- the same of all classes of a program
 abbrev pub LocalsAreSetFirst : Program → Type 0
 LocalsAreSetFirst p = All ClassIsSetFirst p.classes

@@ -6,7 +6,7 @@ use Rattle.std.specs.Option.{unwrap_or}
 use Rattle.ty_prog.specs.declared.expr.Expr.{Expr}
 use Rattle.ty_prog.specs.declared.catch.Catch.TheOpen.{Expr-F, Catch-F, Pattern-F, Case-F}
 use Rattle.ty_prog.specs.declared.catch.Catch.TheFolds.{fold-Expr, fold-Case, fold-Pattern}
-use Rattle.ty_prog.specs.Tree.{Tree, ExprTree, CaseTree, PatternTree, ConstructorTree, expr_parts, case_parts, pattern_parts}
+use Rattle.ty_prog.specs.Tree.{Tree, ExprTree, CaseTree, PatternTree, ConstructorTree, StageTree, expr_parts, case_parts, pattern_parts}
 use Rattle.ty_flow.specs.declared.passage.Passage.{Passage}
 
 -- the local isn't touched
@@ -25,6 +25,7 @@ followed one next = record { reads = one.reads || (not one.sets && next.reads); 
 abbrev pub either : Passage → Passage → Passage
 either one other = record { reads = one.reads || other.reads; sets = one.sets && other.sets }
 
+-- several, one after the other
 abbrev pub in_order : List Passage → Passage
 in_order [] = untouched
 in_order (first ∷ rest) = followed first (in_order rest)
@@ -52,10 +53,12 @@ module _ (local : ℕ) where
   abbrev pub read : ℕ → Passage
   read other = record { reads = other == local; sets = false }
 
+  -- what a handler does, by what its parts do
   abbrev pub handler_step : Catch-F Passage Passage Passage Passage → Passage
   handler_step (Catch-F.Cases cases) = one_of cases
   handler_step (Catch-F.«Catch::Any» other body) = followed (stored other) body
 
+  -- what an expression does, by what its parts do
   abbrev pub expr_step : Expr-F Passage Passage Passage Passage → Passage
   expr_step (Expr-F.Local other) = read other
   expr_step (Expr-F.SetLocal other e) = followed e (stored other)
@@ -66,20 +69,25 @@ module _ (local : ℕ) where
   expr_step (Expr-F.Match of cases) = followed of (one_of cases)
   expr_step other = in_order (expr_parts (λ u. u ∷ []) (λ u. u) (λ u. u) other)
 
+  -- what a pattern does, by what its parts do
   abbrev pub pattern_step : Pattern-F Passage Passage Passage Passage → Passage
   pattern_step (Pattern-F.Bind other pattern) = followed pattern (stored other)
   pattern_step (Pattern-F.Either parts) = one_of parts
   pattern_step other = in_order (pattern_parts (λ u. u) (λ u. u) other)
 
+  -- what a case does, by what its parts do
   abbrev pub case_step : Case-F Passage Passage Passage Passage → Passage
   case_step c = in_order (case_parts (λ u. u) (λ u. u) c)
 
+  -- what an expression does with the local
   abbrev pub expr_passage : Expr → Passage
   expr_passage = fold-Expr Passage Passage Passage Passage handler_step expr_step pattern_step case_step
 
-  -- what a tree does with the local; a case as the way on which it is taken
+  -- what a tree does with the local; a case as the way on which it is taken. The stages of a constructor that are no
+  -- expressions touch no local but its parameters, which have values from the start
   abbrev pub passage : Tree → Passage
   passage (ExprTree e) = expr_passage e
   passage (CaseTree c) = fold-Case Passage Passage Passage Passage handler_step expr_step pattern_step case_step c
   passage (PatternTree p) = fold-Pattern Passage Passage Passage Passage handler_step expr_step pattern_step case_step p
   passage (ConstructorTree class) = in_order (map expr_passage class.super_args ++ map expr_passage class.body)
+  passage (StageTree stage) = untouched

@@ -6,8 +6,6 @@ mod laws;
 mod passage;
 pub mod passing;
 mod set_first;
-#[cfg(test)]
-mod tests;
 
 pub use laws::ways;
 pub use passage::Passage;

@@ -24,6 +24,7 @@ pub fn passage(local: u32, root: Node<'_>) -> Passage
         Node::Case(c) => case_passage(local, c),
         Node::Pattern(p) => pattern_passage(local, p),
         Node::Constructor(class) => constructor_passage(local, class),
+        Node::Stage(_) => UNTOUCHED,
     }
 }
 
@@ -49,7 +50,6 @@ fn expr_passage(local: u32, e: &Expr) -> Passage
         | Expr::Unit
         | Expr::This
         | Expr::ObjectGet(_)
-        | Expr::NewLatch
         | Expr::ModuleGet(_) => UNTOUCHED,
         Expr::Local(other) => read(local, *other),
         Expr::SetLocal(other, of) => followed(expr_passage(local, of.get()), stored(local, *other)),
@@ -60,6 +60,8 @@ fn expr_passage(local: u32, e: &Expr) -> Passage
         | Expr::Start(of)
         | Expr::LazyGet { of, .. }
         | Expr::Test { of, .. }
+        | Expr::NewLatch(of)
+        | Expr::OwnedHere(of)
         | Expr::Await(of)
         | Expr::CountDown(of)
         | Expr::SetModule(_, of) => alone(expr_passage(local, of.get())),

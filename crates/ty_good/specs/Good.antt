@@ -6,6 +6,10 @@ use Rattle.ty_typed.specs.Bodies.{TypedWith}
 use Rattle.ty_complete.specs.Complete.{Complete}
 use Rattle.ty_good.specs.Numbers.{NumbersInRange}
 use Rattle.ty_good.specs.Forms.{HasForms}
+use Rattle.ty_good.specs.Names.{NamesMade}
+use Rattle.ty_good.specs.Traits.{MixinsFit, SupersStand, TraitsHaveRoom, TraitsLowered}
+use Rattle.ty_good.specs.Modules.{ModulesSet}
+use Rattle.ty_good.specs.Selection.{SelectsFound}
 
 -- good where the locals have these types
 pub record GoodWith (k : ℕ) (p : Program) (locals : List ClassLocals) : Type 0 where
@@ -13,9 +17,16 @@ pub record GoodWith (k : ℕ) (p : Program) (locals : List ClassLocals) : Type 0
   pub typed : TypedWith p locals
   pub complete : Complete p
   pub forms : HasForms k p
+  pub names : NamesMade k p
+  pub mixins : MixinsFit k p
+  pub supers : SupersStand p
+  pub room : TraitsHaveRoom k p
+  pub traits : TraitsLowered k p
+  pub modules : ModulesSet k p
+  pub selection : SelectsFound k p
 
 -- all numbers are in range, each expression has the type that its place wants, each local has one type, the program is
--- complete, and it has the forms of one after k lowerings
+-- complete, and it has the forms, names and members of one after k lowerings
 pub record Good (k : ℕ) (p : Program) : Type 0 where
   pub locals : List ClassLocals
   pub good : GoodWith k p locals

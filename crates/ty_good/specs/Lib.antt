@@ -1,3 +1,9 @@
+-- What a reader must believe.
+pub mod Each
 pub mod Forms
 pub mod Good
+pub mod Modules
+pub mod Names
 pub mod Numbers
+pub mod Selection
+pub mod Traits

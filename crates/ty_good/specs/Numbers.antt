@@ -24,6 +24,7 @@ class_in_range classes class =
     && list_all (λ f. is_known classes f.ty) class.fields && list_all (λ c. is_known classes c.ty) class.cells
     && list_all (method_in_range classes) class.methods
 
+-- the numbers of all declarations of a program are in range
 pub record NumbersInRange (p : Program) : Type 0 where
   pub main : p.main < length p.classes
   pub each : All (λ class. IsTrue (class_in_range p.classes class)) p.classes

@@ -1,18 +1,27 @@
 //! Whether a program is good.
 
 ghost use Rattle.std.specs.Prelude.{◌↔◌, IfOk, IsTrue};
+ghost use Rattle.ty_good.specs.Forms.{HasForms};
 ghost use Rattle.ty_good.specs.Good.{GoodWith};
+ghost use Rattle.ty_good.specs.Modules.{ModulesSet};
+ghost use Rattle.ty_good.specs.Names.{NamesMade};
+ghost use Rattle.ty_good.specs.Selection.{SelectsFound};
+ghost use Rattle.ty_good.specs.Traits.{MixinsFit, SupersStand, TraitsHaveRoom, TraitsLowered};
 
+use crate::NoMemory;
 use crate::forms::has_forms;
-use crate::no_memory::NoMemory;
+use crate::modules::modules_set;
+use crate::names::names_made;
 use crate::numbers::numbers_in_range;
+use crate::selection::selects_found;
+use crate::traits::{mixins_fit, supers_stand, traits_have_room, traits_lowered};
 use std::alloc::Global;
 use ty_complete::is_complete;
 use ty_prog::Program;
 use ty_typed::{ClassLocals, is_typed_with};
 
 /// Whether a program is good after k lowerings, k from 0 to 4, where the locals of its classes have these types. Errors:
-/// want of memory, also for a node of 2^32 children or more.
+/// want of memory.
 pub fn is_good_with(
     alloc: Global,
     k: u32,
@@ -24,11 +33,46 @@ pub fn is_good_with(
     if !numbers_in_range(p) {
         return Ok(false);
     }
+    if !has_forms(k, p) {
+        return Ok(false);
+    }
+    if !traits_have_room(k, p) {
+        return Ok(false);
+    }
     if !is_typed_with(p, locals)? {
         return Ok(false);
     }
     if !is_complete(alloc, p)? {
         return Ok(false);
     }
-    has_forms(k, p)
+    if !members_fit(alloc, k, p)? {
+        return Ok(false);
+    }
+    traits_fit(alloc, k, p)
+}
+
+// What its names, modules and selected methods tell.
+fn members_fit(alloc: Global, k: u32, p: &Program) -> Result<bool, NoMemory>
+    ensures { IfOk result (λ answer. IsTrue answer ↔ (NamesMade k p.now × ModulesSet k p.now × SelectsFound k p.now)) }
+{
+    if !names_made(alloc, k, p)? {
+        return Ok(false);
+    }
+    if !modules_set(alloc, k, p)? {
+        return Ok(false);
+    }
+    selects_found(alloc, k, p)
+}
+
+// What its traits and mixins tell.
+fn traits_fit(alloc: Global, k: u32, p: &Program) -> Result<bool, NoMemory>
+    ensures { IfOk result (λ answer. IsTrue answer ↔ (MixinsFit k p.now × SupersStand p.now × TraitsLowered k p.now)) }
+{
+    if !mixins_fit(alloc, k, p)? {
+        return Ok(false);
+    }
+    if !supers_stand(alloc, p)? {
+        return Ok(false);
+    }
+    traits_lowered(alloc, k, p)
 }

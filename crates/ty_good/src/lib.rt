@@ -1,15 +1,21 @@
-//! What makes a program of the language L good after so many of the lowerings. Plain programs decide it, for tests on
-//! small programs.
+//! What makes a program of the language L good after so many of the lowerings, part by part. Plain programs decide each
+//! part, for tests on small programs.
 #![tactic(auto)]
 
+mod each;
 mod forms;
 mod goodness;
-mod no_memory;
+mod modules;
+mod names;
 mod numbers;
-#[cfg(test)]
-mod tests;
+mod selection;
+mod traits;
 
 pub use forms::has_forms;
 pub use goodness::is_good_with;
-pub use no_memory::NoMemory;
+pub use modules::modules_set;
+pub use names::names_made;
 pub use numbers::numbers_in_range;
+pub use selection::{selected, selects_found};
+pub use sl_base::NoMemory;
+pub use traits::{mixins_fit, mixins_of, supers_stand, traits_have_room, traits_lowered};

@@ -1,4 +1,5 @@
-pub mod Fault
-pub mod Gather
 pub mod Linear
+pub mod Fault
+-- For proofs only.
+pub mod Gather
 pub mod Order

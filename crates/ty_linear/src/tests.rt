@@ -20,12 +20,14 @@ fn rows_of(alloc: Global, text: &str) -> Result<Vec<Vec<u32>>, AllocError> {
     Ok(rows)
 }
 
+// Whether each class of the row is below the count.
 fn are_below(row: &[u32], count: usize) -> bool
     ensures { IsTrue result ↔ All (λ class. class < count) row.now }
 {
     row.iter().all(|class| (*class as usize) < count)
 }
 
+// Whether each number in the rows is that of a row.
 fn are_classes(rows: &[Vec<u32>]) -> bool
     ensures { IsTrue result ↔ All (λ row. All (λ class. class < length rows.now) row.items) rows.now }
 {
@@ -33,6 +35,7 @@ fn are_classes(rows: &[Vec<u32>]) -> bool
     rows.iter().all(|row| are_below(row, count))
 }
 
+// Which parents the classes of a program have.
 #[derive(Clone, Copy)]
 enum Shape {
     // Each class has the one before it as its parent.
@@ -45,6 +48,7 @@ enum Shape {
     Diamonds,
 }
 
+// The parents of one class.
 fn row(alloc: Global, shape: Shape, class: u32, count: u32) -> Result<Vec<u32>, AllocError>
     requires { class < count }
 {
@@ -83,6 +87,7 @@ fn row(alloc: Global, shape: Shape, class: u32, count: u32) -> Result<Vec<u32>, 
     Ok(row)
 }
 
+// The parents of so many classes.
 fn rows_in(alloc: Global, shape: Shape, count: u32) -> Result<Vec<Vec<u32>>, AllocError> {
     let mut rows = Vec::new(alloc);
     for class in 0..count {
@@ -135,14 +140,16 @@ fn small_programs(rt: HostRuntime) -> Result<(), Fail> {
     Ok(())
 }
 
-// One class's list has all classes, in rising or in falling order.
+// One class's list has all classes, in rising or in falling order, also where there are as many as a program may have.
 #[test]
 fn shapes(rt: HostRuntime) -> Result<(), Fail> {
-    let count = 301;
-    for (shape, class, is_rising) in [
-        (Shape::Rising, 300, false),
-        (Shape::Falling(None), 0, true),
-        (Shape::Diamonds, 300, false),
+    for (shape, count, class, is_rising) in [
+        (Shape::Rising, 301, 300, false),
+        (Shape::Rising, 4100, 4099, false),
+        (Shape::Falling(None), 301, 0, true),
+        (Shape::Falling(None), 4100, 0, true),
+        (Shape::Diamonds, 301, 300, false),
+        (Shape::Diamonds, 4099, 4098, false),
     ] {
         let rows = rows_in(rt.alloc(), shape, count)?;
         assert!(rt; are_classes(&rows));
@@ -155,14 +162,14 @@ fn shapes(rt: HostRuntime) -> Result<(), Fail> {
             "of {class}"
         );
     }
-    let rows = rows_in(rt.alloc(), Shape::Fan, count)?;
+    let rows = rows_in(rt.alloc(), Shape::Fan, 4100)?;
     assert!(rt; are_classes(&rows));
-    let mut want: Vec<u32> = (1..count).collect(rt.alloc())?;
+    let mut want: Vec<u32> = (1..4100).collect(rt.alloc())?;
     want.push(0)?;
     want.reverse();
     assert!(rt; linearise(rt.alloc(), &rows)?.get(0) == Some(&want));
-    for class in 0..9 {
-        let rows = rows_in(rt.alloc(), Shape::Falling(Some(class)), 9)?;
+    for (count, class) in [(9, 0), (9, 1), (9, 5), (9, 8), (2000, 1999)] {
+        let rows = rows_in(rt.alloc(), Shape::Falling(Some(class)), count)?;
         assert!(rt; are_classes(&rows));
         assert!(rt;
             linearise(rt.alloc(), &rows) == Err(LinearFault::Cyclic { class }),

@@ -1,4 +1,6 @@
+pub mod Fitting
 pub mod Members
 pub mod Places
 pub mod Plain
-pub mod Sums
+pub mod Remaking
+pub mod Stacks

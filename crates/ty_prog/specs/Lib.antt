@@ -1,6 +1,9 @@
 pub mod Find
-pub mod Measure
+pub mod New
 pub mod Node
+pub mod Part
 pub mod Prelude
+pub mod Shape
 pub mod Tree
-pub mod Weight
+-- For proofs only.
+pub mod Rebuilt

@@ -24,6 +24,7 @@ class name kind parents linear params fields methods super_args locals = record 
   parents = parents;
   linear = linear;
   params = params;
+  mixins = [];
   fields = fields;
   cells = [];
   methods = methods;

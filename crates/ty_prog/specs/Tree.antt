@@ -1,18 +1,23 @@
--- Trees: an expression, a case or a pattern with all that is below it, or the constructor of a class; and the parts of
--- each in order of evaluation (SLS 6, 8).
-use Rattle.std.specs.Prelude.{List, [], ◌∷◌, ◌++◌, Option, Some, None, map, option_to_list, option_map}
+-- Trees: an expression, a case or a pattern with all that is below it, or the constructor of a class or a stage of it;
+-- and the parts of each in order of evaluation (SLS 5.1, 6, 8).
+use Rattle.std.specs.Prelude.{ℕ, Bool, true, false, List, [], ◌∷◌, ◌++◌, Option, Some, None, map, option_to_list, option_map, if◌then◌else◌}
 use Rattle.ty_prog.specs.declared.expr.Expr.{Expr, out-Expr}
 use Rattle.ty_prog.specs.declared.catch.Catch.{Catch, out-Catch}
 use Rattle.ty_prog.specs.declared.catch.Catch.TheOpen.{Expr-F, Catch-F, Pattern-F, Case-F}
 use Rattle.ty_prog.specs.declared.case.Case.{Case, out-Case}
 use Rattle.ty_prog.specs.declared.pattern.Pattern.{Pattern, out-Pattern}
 use Rattle.ty_prog.specs.declared.class.Class.{Class}
+use Rattle.ty_prog.specs.declared.kind.Kind.{Kind}
+use Rattle.ty_prog.specs.declared.kind.Kind.TheVariants as kind
+use Rattle.ty_prog.specs.declared.stage.Stage.{Stage}
+use Rattle.ty_prog.specs.declared.stage.Stage.TheVariants as stage
 
 pub data Tree : Type 0 where
   ExprTree : (e : Expr) → Tree
   CaseTree : (c : Case) → Tree
   PatternTree : (p : Pattern) → Tree
   ConstructorTree : (class : Class) → Tree
+  StageTree : (stage : Stage) → Tree
 
 -- one level of an expression, of a handler, of a case or of a pattern
 abbrev pub ExprLevel : Type 0
@@ -59,6 +64,8 @@ expr_parts handler expr case (Expr-F.LazyGet of class cell) = expr of ∷ []
 expr_parts handler expr case (Expr-F.SuperCall after name args) = map expr args
 expr_parts handler expr case (Expr-F.Test of test) = expr of ∷ []
 expr_parts handler expr case (Expr-F.Cas of class field old new) = expr of ∷ expr old ∷ expr new ∷ []
+expr_parts handler expr case (Expr-F.NewLatch e) = expr e ∷ []
+expr_parts handler expr case (Expr-F.OwnedHere e) = expr e ∷ []
 expr_parts handler expr case (Expr-F.Await e) = expr e ∷ []
 expr_parts handler expr case (Expr-F.CountDown e) = expr e ∷ []
 expr_parts handler expr case (Expr-F.StaticCall class method args) = map expr args
@@ -72,7 +79,6 @@ expr_parts handler expr case Expr-F.Unit = []
 expr_parts handler expr case (Expr-F.Local local) = []
 expr_parts handler expr case Expr-F.This = []
 expr_parts handler expr case (Expr-F.ObjectGet class) = []
-expr_parts handler expr case Expr-F.NewLatch = []
 expr_parts handler expr case (Expr-F.ModuleGet class) = []
 
 -- the parts of a pattern
@@ -92,10 +98,42 @@ case_parts expr pattern c = pattern c.pattern ∷ option_to_list (option_map exp
 abbrev pub handler_children : Catch → List Tree
 handler_children c = handler_parts ExprTree CaseTree (out-Catch c)
 
--- the children of a tree, in order of evaluation; those of a constructor are the arguments of the superclass
--- constructor, and then the statements
+-- a level that sets the module of an object
+abbrev pub level_sets_module : ExprLevel → Bool
+level_sets_module (Expr-F.SetModule class e) = true
+level_sets_module other = false
+
+-- an expression that does
+abbrev pub sets_module : Expr → Bool
+sets_module e = level_sets_module (out-Expr e)
+
+-- the mixin evaluation, and then statements (SLS 5.1)
+abbrev pub mixins_then : List ℕ → List Expr → List Tree
+mixins_then mixins body = map (λ trait. StageTree (stage.Mixin trait)) mixins ++ map ExprTree body
+
+-- the same for a whole body: where it begins by setting the module of an object, that comes first
+abbrev pub module_then : List ℕ → List Expr → List Tree
+module_then mixins [] = mixins_then mixins []
+module_then mixins (first ∷ rest) =
+    if sets_module first then ExprTree first ∷ mixins_then mixins rest else mixins_then mixins (first ∷ rest)
+
+-- what a constructor does behind the constructor of the superclass
+abbrev pub behind_superclass : Class → List Tree
+behind_superclass class = module_then class.mixins class.body
+
+-- what it does behind the storing of class parameters
+abbrev pub behind_params : Class → List Tree
+behind_params class = map ExprTree class.super_args ++ StageTree stage.Superclass ∷ behind_superclass class
+
+-- what a constructor does, in order (SLS 5.1): one of a trait runs statements alone
+abbrev pub constructor_children : Class → Kind → List Tree
+constructor_children class kind.Trait = map ExprTree class.body
+constructor_children class other = map (λ field. StageTree (stage.Parameter field)) class.params ++ behind_params class
+
+-- the children of a tree, in order of evaluation
 abbrev pub children : Tree → List Tree
 children (ExprTree e) = expr_parts handler_children ExprTree CaseTree (out-Expr e)
 children (CaseTree c) = case_parts ExprTree PatternTree (out-Case c)
 children (PatternTree p) = pattern_parts ExprTree PatternTree (out-Pattern p)
-children (ConstructorTree class) = map ExprTree class.super_args ++ map ExprTree class.body
+children (ConstructorTree class) = constructor_children class class.kind
+children (StageTree stage) = []

@@ -1,20 +1,23 @@
 //! The children of a node, in order of evaluation.
 
-ghost use Rattle.std.specs.Prelude.{◌≡◌, [], ◌∷◌, ◌++◌, length, slice_get, map, option_map, option_to_list};
-ghost use Rattle.ty_prog.specs.Tree.{ExprTree, CaseTree, PatternTree, ConstructorTree, children, handler_children, or_none};
+ghost use Rattle.std.specs.Prelude.{◌≡◌, ◌<◌, ◌^◌, [], ◌∷◌, ◌++◌, length, slice_get, map, option_map, option_copied, option_to_list, OnSome};
+ghost use Rattle.ty_prog.specs.Tree.{ExprTree, CaseTree, PatternTree, ConstructorTree, children, handler_children, or_none, behind_params, behind_superclass, mixins_then, sets_module};
 ghost use Rattle.ty_prog.specs.Node.{tree_of};
 
 use crate::case::Case;
 use crate::catch::Catch;
 use crate::class::Class;
 use crate::expr::Expr;
+use crate::kind::Kind;
 use crate::node::Node;
 use crate::pattern::Pattern;
+use crate::stage::Stage;
 use sqlite_items::{Boxed, Items};
 
 /// The child of an expression with this number.
-pub(crate) fn expr_child<'a>(e: &'a Expr, i: usize) -> Option<Node<'a>>
-    ensures { option_map tree_of result ≡ slice_get (children (ExprTree e.now)) i }
+pub(crate) fn expr_child<'a>(e: &'a Expr, i: u128) -> Option<Node<'a>>
+    ensures value { option_map tree_of result ≡ slice_get (children (ExprTree e.now)) i }
+    ensures within { OnSome result (i < 2 ^ 65) }
 {
     match e {
         Expr::Int(_)
@@ -26,7 +29,6 @@ pub(crate) fn expr_child<'a>(e: &'a Expr, i: usize) -> Option<Node<'a>>
         | Expr::Local(_)
         | Expr::This
         | Expr::ObjectGet(_)
-        | Expr::NewLatch
         | Expr::ModuleGet(_) => None,
         Expr::SetLocal(_, of)
         | Expr::Get { of, .. }
@@ -36,6 +38,8 @@ pub(crate) fn expr_child<'a>(e: &'a Expr, i: usize) -> Option<Node<'a>>
         | Expr::Start(of)
         | Expr::LazyGet { of, .. }
         | Expr::Test { of, .. }
+        | Expr::NewLatch(of)
+        | Expr::OwnedHere(of)
         | Expr::Await(of)
         | Expr::CountDown(of)
         | Expr::SetModule(_, of) => one(of, i),
@@ -48,7 +52,7 @@ pub(crate) fn expr_child<'a>(e: &'a Expr, i: usize) -> Option<Node<'a>>
         | Expr::New { class: _, args }
         | Expr::Prim { op: _, args }
         | Expr::SuperCall { args, .. }
-        | Expr::StaticCall { args, .. } => exprs(args, i),
+        | Expr::StaticCall { args, .. } => exprs(args.as_slice(), i),
         Expr::Call { of, args, .. } => first_then(of, args, i),
         Expr::Match { of, cases } => of_match(of, cases, i),
         Expr::Try {
@@ -59,8 +63,9 @@ pub(crate) fn expr_child<'a>(e: &'a Expr, i: usize) -> Option<Node<'a>>
     }
 }
 
-fn one<'a>(e: &'a Boxed<Expr>, i: usize) -> Option<Node<'a>>
-    ensures { option_map tree_of result ≡ slice_get (ExprTree e.now ∷ []) i }
+fn one<'a>(e: &'a Boxed<Expr>, i: u128) -> Option<Node<'a>>
+    ensures value { option_map tree_of result ≡ slice_get (ExprTree e.now ∷ []) i }
+    ensures within { OnSome result (i < 3) }
 {
     match i {
         0 => Some(Node::Expr(e.get())),
@@ -68,8 +73,9 @@ fn one<'a>(e: &'a Boxed<Expr>, i: usize) -> Option<Node<'a>>
     }
 }
 
-fn two<'a>(a: &'a Boxed<Expr>, b: &'a Boxed<Expr>, i: usize) -> Option<Node<'a>>
-    ensures { option_map tree_of result ≡ slice_get (ExprTree a.now ∷ ExprTree b.now ∷ []) i }
+fn two<'a>(a: &'a Boxed<Expr>, b: &'a Boxed<Expr>, i: u128) -> Option<Node<'a>>
+    ensures value { option_map tree_of result ≡ slice_get (ExprTree a.now ∷ ExprTree b.now ∷ []) i }
+    ensures within { OnSome result (i < 3) }
 {
     match i {
         0 => Some(Node::Expr(a.get())),
@@ -82,9 +88,10 @@ fn three<'a>(
     a: &'a Boxed<Expr>,
     b: &'a Boxed<Expr>,
     c: &'a Boxed<Expr>,
-    i: usize,
+    i: u128,
 ) -> Option<Node<'a>>
-    ensures { option_map tree_of result ≡ slice_get (ExprTree a.now ∷ ExprTree b.now ∷ ExprTree c.now ∷ []) i }
+    ensures value { option_map tree_of result ≡ slice_get (ExprTree a.now ∷ ExprTree b.now ∷ ExprTree c.now ∷ []) i }
+    ensures within { OnSome result (i < 3) }
 {
     match i {
         0 => Some(Node::Expr(a.get())),
@@ -94,8 +101,9 @@ fn three<'a>(
     }
 }
 
-fn optional<'a>(e: &'a Option<Boxed<Expr>>, i: usize) -> Option<Node<'a>>
-    ensures { option_map tree_of result ≡ slice_get (option_to_list (option_map ExprTree e.now)) i }
+fn optional<'a>(e: &'a Option<Boxed<Expr>>, i: u128) -> Option<Node<'a>>
+    ensures value { option_map tree_of result ≡ slice_get (option_to_list (option_map ExprTree e.now)) i }
+    ensures within { OnSome result (i < 3) }
 {
     match e {
         Some(e) => one(e, i),
@@ -103,45 +111,62 @@ fn optional<'a>(e: &'a Option<Boxed<Expr>>, i: usize) -> Option<Node<'a>>
     }
 }
 
-fn exprs<'a>(es: &'a Items<Expr>, i: usize) -> Option<Node<'a>>
-    ensures { option_map tree_of result ≡ slice_get (map ExprTree es.now) i }
+// The item with this number.
+fn item<T>(items: &[T], i: u128) -> Option<&T>
+    ensures value { option_copied result ≡ slice_get items.now i }
+    ensures within { OnSome result (i < 2 ^ 64) }
 {
-    match es.get(i) {
+    if i < items.len() as u128 {
+        Some(&items[i as usize])
+    } else {
+        None
+    }
+}
+
+fn exprs<'a>(es: &'a [Expr], i: u128) -> Option<Node<'a>>
+    ensures value { option_map tree_of result ≡ slice_get (map ExprTree es.now) i }
+    ensures within { OnSome result (i < 2 ^ 64) }
+{
+    match item(es, i) {
         Some(e) => Some(Node::Expr(e)),
         None => None,
     }
 }
 
-fn cases<'a>(cases: &'a Items<Case>, i: usize) -> Option<Node<'a>>
-    ensures { option_map tree_of result ≡ slice_get (map CaseTree cases.now) i }
+fn cases<'a>(cases: &'a Items<Case>, i: u128) -> Option<Node<'a>>
+    ensures value { option_map tree_of result ≡ slice_get (map CaseTree cases.now) i }
+    ensures within { OnSome result (i < 2 ^ 64) }
 {
-    match cases.get(i) {
+    match item(cases.as_slice(), i) {
         Some(c) => Some(Node::Case(c)),
         None => None,
     }
 }
 
-fn patterns<'a>(parts: &'a Items<Pattern>, i: usize) -> Option<Node<'a>>
-    ensures { option_map tree_of result ≡ slice_get (map PatternTree parts.now) i }
+fn patterns<'a>(parts: &'a Items<Pattern>, i: u128) -> Option<Node<'a>>
+    ensures value { option_map tree_of result ≡ slice_get (map PatternTree parts.now) i }
+    ensures within { OnSome result (i < 2 ^ 64) }
 {
-    match parts.get(i) {
+    match item(parts.as_slice(), i) {
         Some(p) => Some(Node::Pattern(p)),
         None => None,
     }
 }
 
-fn first_then<'a>(of: &'a Boxed<Expr>, args: &'a Items<Expr>, i: usize) -> Option<Node<'a>>
-    ensures { option_map tree_of result ≡ slice_get (ExprTree of.now ∷ map ExprTree args.now) i }
+fn first_then<'a>(of: &'a Boxed<Expr>, args: &'a Items<Expr>, i: u128) -> Option<Node<'a>>
+    ensures value { option_map tree_of result ≡ slice_get (ExprTree of.now ∷ map ExprTree args.now) i }
+    ensures within { OnSome result (i < 2 ^ 65) }
 {
     if i == 0 {
         Some(Node::Expr(of.get()))
     } else {
-        exprs(args, i - 1)
+        exprs(args.as_slice(), i - 1)
     }
 }
 
-fn of_match<'a>(of: &'a Boxed<Expr>, branches: &'a Items<Case>, i: usize) -> Option<Node<'a>>
-    ensures { option_map tree_of result ≡ slice_get (ExprTree of.now ∷ map CaseTree branches.now) i }
+fn of_match<'a>(of: &'a Boxed<Expr>, branches: &'a Items<Case>, i: u128) -> Option<Node<'a>>
+    ensures value { option_map tree_of result ≡ slice_get (ExprTree of.now ∷ map CaseTree branches.now) i }
+    ensures within { OnSome result (i < 2 ^ 65) }
 {
     if i == 0 {
         Some(Node::Expr(of.get()))
@@ -150,8 +175,9 @@ fn of_match<'a>(of: &'a Boxed<Expr>, branches: &'a Items<Case>, i: usize) -> Opt
     }
 }
 
-fn of_handler<'a>(handler: &'a Option<Catch>, i: usize) -> Option<Node<'a>>
-    ensures { option_map tree_of result ≡ slice_get (or_none (option_map handler_children handler.now)) i }
+fn of_handler<'a>(handler: &'a Option<Catch>, i: u128) -> Option<Node<'a>>
+    ensures value { option_map tree_of result ≡ slice_get (or_none (option_map handler_children handler.now)) i }
+    ensures within { OnSome result (i < 2 ^ 64) }
 {
     match handler {
         None => None,
@@ -161,12 +187,13 @@ fn of_handler<'a>(handler: &'a Option<Catch>, i: usize) -> Option<Node<'a>>
 }
 
 // How many children a handler has.
-fn handler_len(handler: &Option<Catch>) -> usize
-    ensures { result ≡ length (or_none (option_map handler_children handler.now)) }
+fn handler_len(handler: &Option<Catch>) -> u128
+    ensures value { result ≡ length (or_none (option_map handler_children handler.now)) }
+    ensures within { result < 2 ^ 64 }
 {
     match handler {
         None => 0,
-        Some(Catch::Cases(cases)) => cases.len(),
+        Some(Catch::Cases(cases)) => cases.len() as u128,
         Some(Catch::Any { .. }) => 1,
     }
 }
@@ -175,10 +202,11 @@ fn of_try<'a>(
     body: &'a Boxed<Expr>,
     handler: &'a Option<Catch>,
     last: &'a Option<Boxed<Expr>>,
-    i: usize,
+    i: u128,
 ) -> Option<Node<'a>>
-    ensures { option_map tree_of result
+    ensures value { option_map tree_of result
         ≡ slice_get (ExprTree body.now ∷ or_none (option_map handler_children handler.now) ++ option_to_list (option_map ExprTree last.now)) i }
+    ensures within { OnSome result (i < 2 ^ 65) }
 {
     let count = handler_len(handler);
     if i == 0 {
@@ -191,8 +219,9 @@ fn of_try<'a>(
 }
 
 /// The child of a case with this number: its pattern, its guard where it has one, and its body.
-pub(crate) fn case_child<'a>(c: &'a Case, i: usize) -> Option<Node<'a>>
-    ensures { option_map tree_of result ≡ slice_get (children (CaseTree c.now)) i }
+pub(crate) fn case_child<'a>(c: &'a Case, i: u128) -> Option<Node<'a>>
+    ensures value { option_map tree_of result ≡ slice_get (children (CaseTree c.now)) i }
+    ensures within { OnSome result (i < 3) }
 {
     match &c.guard {
         Some(guard) => match i {
@@ -210,8 +239,9 @@ pub(crate) fn case_child<'a>(c: &'a Case, i: usize) -> Option<Node<'a>>
 }
 
 /// The child of a pattern with this number.
-pub(crate) fn pattern_child<'a>(p: &'a Pattern, i: usize) -> Option<Node<'a>>
-    ensures { option_map tree_of result ≡ slice_get (children (PatternTree p.now)) i }
+pub(crate) fn pattern_child<'a>(p: &'a Pattern, i: u128) -> Option<Node<'a>>
+    ensures value { option_map tree_of result ≡ slice_get (children (PatternTree p.now)) i }
+    ensures within { OnSome result (i < 2 ^ 64) }
 {
     match p {
         Pattern::Any | Pattern::OfType(_) | Pattern::Object(_) => None,
@@ -225,13 +255,70 @@ pub(crate) fn pattern_child<'a>(p: &'a Pattern, i: usize) -> Option<Node<'a>>
 }
 
 /// The child of the constructor of a class with this number.
-pub(crate) fn constructor_child<'a>(class: &'a Class, i: usize) -> Option<Node<'a>>
-    ensures { option_map tree_of result ≡ slice_get (children (ConstructorTree class.now)) i }
+pub(crate) fn constructor_child<'a>(class: &'a Class, i: u128) -> Option<Node<'a>>
+    ensures value { option_map tree_of result ≡ slice_get (children (ConstructorTree class.now)) i }
+    ensures within { OnSome result (i < 2 ^ 68) }
 {
-    let count = class.super_args.len();
+    if class.kind == Kind::Trait {
+        return exprs(class.body.as_slice(), i);
+    }
+    let params = class.params.as_slice();
+    let count = params.len() as u128;
     if i < count {
-        exprs(&class.super_args, i)
+        Some(Node::Stage(Stage::Parameter(params[i as usize])))
     } else {
-        exprs(&class.body, i - count)
+        behind_params(class, i - count)
+    }
+}
+
+// A child behind those for class parameters.
+fn behind_params<'a>(class: &'a Class, i: u128) -> Option<Node<'a>>
+    ensures value { option_map tree_of result ≡ slice_get (behind_params class.now) i }
+    ensures within { OnSome result (i < 2 ^ 67) }
+{
+    let args = class.super_args.as_slice();
+    let count = args.len() as u128;
+    if i < count {
+        exprs(args, i)
+    } else if i == count {
+        Some(Node::Stage(Stage::Superclass))
+    } else {
+        behind_superclass(class, i - count - 1)
+    }
+}
+
+// A child behind the constructor of the superclass.
+fn behind_superclass<'a>(class: &'a Class, i: u128) -> Option<Node<'a>>
+    ensures value { option_map tree_of result ≡ slice_get (behind_superclass class.now) i }
+    ensures within { OnSome result (i < 2 ^ 66) }
+{
+    let (mixins, body) = (class.mixins.as_slice(), class.body.as_slice());
+    match body.split_first() {
+        Some((first, rest)) if sets_module(first) => {
+            if i == 0 {
+                Some(Node::Expr(first))
+            } else {
+                mixins_then(mixins, rest, i - 1)
+            }
+        }
+        _ => mixins_then(mixins, body, i),
+    }
+}
+
+fn sets_module(e: &Expr) -> bool
+    ensures { result ≡ sets_module e.now }
+{
+    matches!(e, Expr::SetModule(..))
+}
+
+fn mixins_then<'a>(mixins: &[u32], body: &'a [Expr], i: u128) -> Option<Node<'a>>
+    ensures value { option_map tree_of result ≡ slice_get (mixins_then mixins.now body.now) i }
+    ensures within { OnSome result (i < 2 ^ 65) }
+{
+    let count = mixins.len() as u128;
+    if i < count {
+        Some(Node::Stage(Stage::Mixin(mixins[i as usize])))
+    } else {
+        exprs(body, i - count)
     }
 }

@@ -2,18 +2,18 @@
 
 ghost use Rattle.std.specs.Prelude.{◌≡◌, IfOk};
 
+use crate::NoMemory;
 use crate::cell::Cell;
 use crate::class::Class;
-use crate::copy_expr::copy_expr;
+use crate::copy_trees::copy_expr;
 use crate::expr::Expr;
 use crate::field::Field;
 use crate::method::Method;
-use crate::no_memory::NoMemory;
 use crate::program::Program;
 use sqlite_items::Items;
-use std::alloc::{AllocError, Global};
+use std::alloc::Global;
 
-/// A copy of a program.
+/// A copy of a program. Errors: want of memory.
 pub fn copy(alloc: Global, p: &Program) -> Result<Program, NoMemory>
     ensures { IfOk result (λ made. made ≡ p.now) }
 {
@@ -27,8 +27,8 @@ pub fn copy(alloc: Global, p: &Program) -> Result<Program, NoMemory>
     })
 }
 
-/// A copy of a class.
-pub(crate) fn copy_class(alloc: Global, class: &Class) -> Result<Class, AllocError>
+/// A copy of a class. Errors: want of memory.
+pub fn copy_class(alloc: Global, class: &Class) -> Result<Class, NoMemory>
     ensures { IfOk result (λ made. made ≡ class.now) }
 {
     Ok(Class {
@@ -37,6 +37,7 @@ pub(crate) fn copy_class(alloc: Global, class: &Class) -> Result<Class, AllocErr
         parents: Items::from_slice(alloc, class.parents.as_slice())?,
         linear: Items::from_slice(alloc, class.linear.as_slice())?,
         params: Items::from_slice(alloc, class.params.as_slice())?,
+        mixins: Items::from_slice(alloc, class.mixins.as_slice())?,
         fields: fields(alloc, &class.fields)?,
         cells: cells(alloc, &class.cells)?,
         methods: methods(alloc, &class.methods)?,
@@ -46,7 +47,7 @@ pub(crate) fn copy_class(alloc: Global, class: &Class) -> Result<Class, AllocErr
     })
 }
 
-fn fields(alloc: Global, fields: &Items<Field>) -> Result<Items<Field>, AllocError>
+fn fields(alloc: Global, fields: &Items<Field>) -> Result<Items<Field>, NoMemory>
     ensures { IfOk result (λ made. made ≡ fields.now) }
 {
     let mut made = Items::new(alloc);
@@ -59,7 +60,7 @@ fn fields(alloc: Global, fields: &Items<Field>) -> Result<Items<Field>, AllocErr
     Ok(made)
 }
 
-fn cells(alloc: Global, cells: &Items<Cell>) -> Result<Items<Cell>, AllocError>
+fn cells(alloc: Global, cells: &Items<Cell>) -> Result<Items<Cell>, NoMemory>
     ensures { IfOk result (λ made. made ≡ cells.now) }
 {
     let mut made = Items::new(alloc);
@@ -74,7 +75,7 @@ fn cells(alloc: Global, cells: &Items<Cell>) -> Result<Items<Cell>, AllocError>
     Ok(made)
 }
 
-fn methods(alloc: Global, methods: &Items<Method>) -> Result<Items<Method>, AllocError>
+fn methods(alloc: Global, methods: &Items<Method>) -> Result<Items<Method>, NoMemory>
     ensures { IfOk result (λ made. made ≡ methods.now) }
 {
     let mut made = Items::new(alloc);
@@ -84,7 +85,8 @@ fn methods(alloc: Global, methods: &Items<Method>) -> Result<Items<Method>, Allo
     Ok(made)
 }
 
-fn copy_method(alloc: Global, method: &Method) -> Result<Method, AllocError>
+/// A copy of a method. Errors: want of memory.
+pub fn copy_method(alloc: Global, method: &Method) -> Result<Method, NoMemory>
     ensures { IfOk result (λ made. made ≡ method.now) }
 {
     Ok(Method {
@@ -97,7 +99,7 @@ fn copy_method(alloc: Global, method: &Method) -> Result<Method, AllocError>
     })
 }
 
-fn body(alloc: Global, body: &Option<Expr>) -> Result<Option<Expr>, AllocError>
+fn body(alloc: Global, body: &Option<Expr>) -> Result<Option<Expr>, NoMemory>
     ensures { IfOk result (λ made. made ≡ body.now) }
 {
     match body {
@@ -106,7 +108,7 @@ fn body(alloc: Global, body: &Option<Expr>) -> Result<Option<Expr>, AllocError>
     }
 }
 
-fn exprs(alloc: Global, es: &Items<Expr>) -> Result<Items<Expr>, AllocError>
+fn exprs(alloc: Global, es: &Items<Expr>) -> Result<Items<Expr>, NoMemory>
     ensures { IfOk result (λ made. made ≡ es.now) }
 {
     let mut made = Items::new(alloc);

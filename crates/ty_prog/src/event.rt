@@ -1,6 +1,6 @@
 //! What a thread shows to the outside.
 
-use sl_name::Name;
+use sl_base::Name;
 
 /// A printed line, or the exception that ended a thread. Threads are counted from 1.
 #[derive(Debug, Drop)]

@@ -5,7 +5,7 @@ use crate::catch::Catch;
 use crate::prim_op::PrimOp;
 use crate::tested::Tested;
 use crate::ty::Ty;
-use sl_name::Name;
+use sl_base::Name;
 use sqlite_items::{Boxed, Items};
 
 /// An expression of the language L, whose children stand in the order of their evaluation. Classes, fields, cells,
@@ -93,7 +93,10 @@ pub enum Expr {
         old: Boxed<Expr>,
         new: Boxed<Expr>,
     },
-    NewLatch,
+    /// A latch, made by the thread that read this value; the value tells whether one is wanted.
+    NewLatch(Boxed<Expr>),
+    /// Whether this control value names the thread that asks.
+    OwnedHere(Boxed<Expr>),
     Await(Boxed<Expr>),
     CountDown(Boxed<Expr>),
     StaticCall {

@@ -8,7 +8,7 @@ ghost use Rattle.ty_prog.specs.Find.{is_concrete, number, own, first_in, behind,
 use crate::class::Class;
 use crate::method::Method;
 use crate::program::Program;
-use sl_name::Name;
+use sl_base::Name;
 
 /// The member of this name that an object of the class has: the first concrete method of the name in the class's
 /// linearisation, as the numbers of its class and of itself (SLS 5.1.3). None exactly where there is none.

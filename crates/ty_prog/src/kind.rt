@@ -7,6 +7,4 @@ pub enum Kind {
     Abstract,
     Trait,
     Object,
-    /// The static methods that a lowering makes of a trait's members.
-    Helper,
 }

@@ -1,13 +1,13 @@
-//! What the definitions of members, places and weights entail, as laws.
+//! What the definitions of members, shapes and places entail, as laws.
 
-ghost use Rattle.std.specs.Prelude.{◌≡◌, ◌≢◌, ℕ, ◌+◌, ◌<◌, ◌≤◌, List, [], ◌∷◌, ◌++◌, Some, None, slice_get, sum_by};
+ghost use Rattle.std.specs.Prelude.{◌≡◌, ◌≢◌, ℕ, List, [], ◌∷◌, ◌++◌, Some, None, slice_get};
 ghost use Rattle.std.specs.Option.{option_and_then};
 ghost use Rattle.std.specs.List.{AllByRecursion};
 ghost use Rattle.ty_prog.specs.declared.class.Class.{Class};
 ghost use Rattle.ty_prog.specs.Find.{own, first_in, behind, IsFirst, IsConcrete};
 ghost use Rattle.ty_prog.specs.Tree.{Tree, children};
 ghost use Rattle.ty_prog.specs.Node.{tree_at};
-ghost use Rattle.ty_prog.specs.Weight.{nodes, weight, own_weight};
+ghost use Rattle.ty_prog.specs.Shape.{shape};
 
 /// The member of a name in a linearisation is the first class's own, and where that has none, the one in the rest
 /// (SLS 5.1.3). What is found is there, with a body, not static, of this name, and nothing before it is.
@@ -26,20 +26,17 @@ pub fn inheriting()
         → behind after (before ++ after ∷ rest) ≡ rest }
 {}
 
-/// The node at a place is a child of the node at the place before.
+/// A tree is its shape and its children.
+pub fn shaping()
+    ensures { (one other : Tree) → shape one ≡ shape other → children one ≡ children other → one ≡ other }
+{}
+
+/// The node at a place is a child of the node at the place before; and the node at a joined place is the one that the
+/// rest leads to from the one that the beginning leads to.
 pub fn placing()
     ensures root { (tree : Tree) → tree_at tree [] ≡ Some tree }
     ensures child { (tree : Tree) (place : List ℕ) (i : ℕ)
         → tree_at tree (place ++ i ∷ []) ≡ option_and_then (λ t. slice_get (children t) i) (tree_at tree place) }
-{}
-
-/// A tree weighs what its root does and what its children do, at least 1, and more than each of its parts; so for the
-/// count of nodes.
-pub fn weighing()
-    ensures sum { (tree : Tree) → weight tree ≡ own_weight tree + sum_by weight (children tree) }
-    ensures count { (tree : Tree) → nodes tree ≡ 1 + sum_by nodes (children tree) }
-    ensures positive { (tree : Tree) → 1 ≤ weight tree }
-    ensures child { (tree : Tree) (i : ℕ) (part : Tree) → slice_get (children tree) i ≡ Some part → weight part < weight tree }
-    ensures part { (tree : Tree) (i : ℕ) (place : List ℕ) (part : Tree)
-        → tree_at tree (i ∷ place) ≡ Some part → weight part < weight tree }
+    ensures joined { (tree : Tree) (first rest : List ℕ)
+        → tree_at tree (first ++ rest) ≡ option_and_then (λ t. tree_at t rest) (tree_at tree first) }
 {}

@@ -4,7 +4,7 @@ ghost use Rattle.std.specs.Prelude.{◌≡◌, IfOk, IsTrue};
 ghost use Rattle.std.specs.Char.{is_ascii};
 ghost use Rattle.std.specs.List.{list_all};
 
-use sl_name::Name;
+use sl_base::Name;
 use std::alloc::{AllocError, Global};
 
 /// The name with this text, whose characters are its bytes.

@@ -5,11 +5,11 @@ ghost use Rattle.std.specs.Char.{is_ascii};
 ghost use Rattle.std.specs.List.{list_all};
 ghost use Rattle.ty_prog.specs.Prelude.{runnable, thread, thread_fields, throwable, message, exception, exceptions, prelude};
 
+use crate::NoMemory;
 use crate::class::Class;
 use crate::expr::Expr;
 use crate::field::Field;
 use crate::kind::Kind;
-use crate::no_memory::NoMemory;
 use crate::plain_name::plain_name;
 use crate::prelude_methods::{method, start, throwable_methods};
 use crate::ty::Ty;
@@ -40,6 +40,7 @@ fn runnable(alloc: Global) -> Result<Class, AllocError>
         parents: Items::new(alloc),
         linear: Items::from_slice(alloc, &[0])?,
         params: Items::new(alloc),
+        mixins: Items::new(alloc),
         fields: Items::new(alloc),
         cells: Items::new(alloc),
         methods,
@@ -60,6 +61,7 @@ fn thread(alloc: Global) -> Result<Class, AllocError>
         parents: Items::new(alloc),
         linear: Items::from_slice(alloc, &[1])?,
         params: Items::from_slice(alloc, &[0])?,
+        mixins: Items::new(alloc),
         fields: thread_fields(alloc)?,
         cells: Items::new(alloc),
         methods,
@@ -93,6 +95,7 @@ fn throwable(alloc: Global) -> Result<Class, AllocError>
         parents: Items::new(alloc),
         linear: Items::from_slice(alloc, &[2])?,
         params: Items::from_slice(alloc, &[0])?,
+        mixins: Items::new(alloc),
         fields: message(alloc)?,
         cells: Items::new(alloc),
         methods: throwable_methods(alloc)?,
@@ -198,6 +201,7 @@ fn put(
         parents: Items::from_slice(alloc, &[linear[1]])?,
         linear: Items::from_slice(alloc, linear)?,
         params: Items::from_slice(alloc, &[0])?,
+        mixins: Items::new(alloc),
         fields: message(alloc)?,
         cells: Items::new(alloc),
         methods: Items::new(alloc),

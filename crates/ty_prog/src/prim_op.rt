@@ -32,7 +32,7 @@ pub enum PrimOp {
     ToString,
     /// The simple name of the class of a value.
     ClassName,
-    /// The control value of a lazy member whose initialiser runs; low.
+    /// The control value that names the thread which makes the move, for a lazy member whose initialiser it runs; low.
     Evaluating,
     /// The control value that stands for null in a lazy member that is done; low.
     NullValue,

@@ -1,20 +1,12 @@
 use super::*;
+use sqlite_items::{Boxed, Items};
 use std::test::Fail;
 
 mod diamond;
-mod forms;
 mod prelude;
 
 #[test]
 fn parts_of_events(rt: HostRuntime) -> Result<(), Fail> {
-    let line = Event::Line {
-        thread: 1,
-        text: Name::from_text(rt.alloc(), "42")?,
-    };
-    let Event::Line { thread, text } = &line else {
-        panic!(rt; "no line: {line:?}")
-    };
-    assert_eq!(rt; (*thread, text.as_str()), (1, "42"));
     let end = Event::Uncaught {
         thread: 2,
         class: Name::from_text(rt.alloc(), "ArithmeticException")?,
@@ -32,5 +24,18 @@ fn parts_of_events(rt: HostRuntime) -> Result<(), Fail> {
         (*thread, class.as_str(), message.as_str()),
         (2, "ArithmeticException", "/ by zero")
     );
+    Ok(())
+}
+
+#[test]
+fn a_node_with_another_child(rt: HostRuntime) -> Result<(), Fail> {
+    let e = Expr::SetLocal(1, Boxed::new(rt.alloc(), Expr::Null)?);
+    let mut parts = Items::new(rt.alloc());
+    parts.push(Part::Expr(Expr::Local(3)))?;
+    let made = rebuild(rt.alloc(), &e, parts)?;
+    let Expr::SetLocal(1, of) = &made else {
+        panic!(rt; "another form: {made:?}")
+    };
+    assert!(rt; matches!(of.get(), Expr::Local(3)));
     Ok(())
 }

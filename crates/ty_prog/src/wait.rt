@@ -1,6 +1,6 @@
 //! Waits.
 
-use sl_name::Name;
+use sl_base::Name;
 
 /// A thread that waits for another, and the lazy member or object at which it does. Threads are counted from 1.
 #[derive(Debug, Drop)]

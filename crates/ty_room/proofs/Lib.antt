@@ -1,3 +1,2 @@
-pub mod Caps
-pub mod Children
-pub mod Forms
+pub mod Folds
+pub mod Steps

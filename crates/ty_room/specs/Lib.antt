@@ -1,5 +1,8 @@
-pub mod Entries
+-- What a reader must believe.
 pub mod Room
-pub mod Settled
-pub mod Sums
-pub mod Supers
+pub mod Numbers
+pub mod Sizing
+pub mod Ahead
+pub mod Forms
+-- For proofs only.
+pub mod Capped

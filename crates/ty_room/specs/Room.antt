@@ -1,24 +1,20 @@
--- What a program becomes has room in class files: code of under 65,536 bytes (JVMS 4.7.3), and a pool of under 65,536
--- entries (JVMS 4.1). The numbers are provisional, as those of weights and of entries: a pass that makes more of a part
--- raises the part's number here and in src/numbers.rt. The bounds stay below those of the standard.
-use Rattle.std.specs.Prelude.{ℕ, ◌+◌, ◌*◌, ◌-◌, ◌≤◌, Bool, true, false, ◌&&◌, not, is_some, List, [], ◌∷◌, Option, Some, None, length, drop, sum_by, slice_get, option_map, if◌then◌else◌}
+-- What a program becomes has room in class files: code of under 65,536 bytes, so that each jump is short (JVMS 4.7.3,
+-- 6.5), and a constant pool of under 65,536 entries (JVMS 4.1).
+use Rattle.std.specs.Prelude.{ℕ, ◌+◌, ◌*◌, ◌-◌, ◌≤◌, Bool, ◌&&◌, not, is_some, List, Option, Some, None, length, map, sum_by, slice_get, option_map, if◌then◌else◌}
 use Rattle.std.specs.List.{All, count_by}
 use Rattle.std.specs.Option.{unwrap_or}
 use Rattle.ty_prog.specs.declared.class.Class.{Class}
 use Rattle.ty_prog.specs.declared.cell.Cell.{Cell}
 use Rattle.ty_prog.specs.declared.method.Method.{Method}
-use Rattle.ty_prog.specs.declared.kind.Kind.{Kind}
-use Rattle.ty_prog.specs.declared.kind.Kind.TheVariants as kind
 use Rattle.ty_prog.specs.declared.expr.Expr.{Expr}
 use Rattle.ty_prog.specs.declared.program.Program.{Program}
-use Rattle.ty_prog.specs.Tree.{Tree, ExprTree, ConstructorTree}
-use Rattle.ty_prog.specs.Weight.{weight}
-use Rattle.ty_linear.specs.Linear.{is_in}
-use Rattle.ty_conform.specs.Kinds.{is_trait, superclass, reaches}
-use Rattle.ty_room.specs.Entries.{entries}
-use Rattle.ty_room.specs.Supers.{supers}
+use Rattle.ty_room.specs.declared.ahead.Ahead.{Ahead}
+use Rattle.ty_room.specs.declared.size.Size.{Size}
+use Rattle.ty_room.specs.Ahead.{ahead_of}
+use Rattle.ty_room.specs.Numbers.{making}
+use Rattle.ty_room.specs.Sizing.{nothing, merged, together, all_exprs, node_size, expr_size}
 
--- the most that a body may weigh
+-- the most that a body may weigh: no jump in it needs a wide form
 abbrev pub MOST_WEIGHT : ℕ
 MOST_WEIGHT = 32000
 
@@ -26,7 +22,11 @@ MOST_WEIGHT = 32000
 abbrev pub MOST_ENTRIES : ℕ
 MOST_ENTRIES = 64000
 
--- what a constructor does with each class parameter and with each trait, and to store the reference of an object
+-- what ends a body
+abbrev pub RETURN_WEIGHT : ℕ
+RETURN_WEIGHT = 2
+
+-- a constructor stores each class parameter, runs the statements of each trait, and stores the reference of an object
 abbrev pub PARAMETER_WEIGHT : ℕ
 PARAMETER_WEIGHT = 8
 
@@ -36,118 +36,131 @@ MIXIN_WEIGHT = 8
 abbrev pub OBJECT_WEIGHT : ℕ
 OBJECT_WEIGHT = 12
 
--- what each class file may bring, whatever it holds: its own name, the superclass, the built-in methods
-abbrev pub CLASS_ENTRIES : ℕ
-CLASS_ENTRIES = 4000
+-- what every class file may name: built-in methods, boxes, exceptions, its own constructor
+abbrev pub FILE_ENTRIES : ℕ
+FILE_ENTRIES = 1000
 
--- what each part of a class brings
-abbrev pub PARENT_ENTRIES : ℕ
-PARENT_ENTRIES = 10
+-- each class of the program may be named: its entry, its name, its descriptor
+abbrev pub NAMED_ENTRIES : ℕ
+NAMED_ENTRIES = 3
 
+-- each class parameter
 abbrev pub PARAMETER_ENTRIES : ℕ
-PARAMETER_ENTRIES = 10
+PARAMETER_ENTRIES = 3
 
-abbrev pub FIELD_ENTRIES : ℕ
-FIELD_ENTRIES = 4
+-- each field; one of a trait becomes methods
+abbrev pub field_entries : Ahead → ℕ
+field_entries ahead = if ahead.traits then 8 else 1
 
--- a cell's field, initialiser and accessor
+-- a lazy member: its field, its initialiser and what is more in its method
 abbrev pub CELL_ENTRIES : ℕ
-CELL_ENTRIES = 60
+CELL_ENTRIES = 32
 
+-- each method: its name and its descriptor; where it has a body, also those that a trait's gives it
 abbrev pub METHOD_ENTRIES : ℕ
-METHOD_ENTRIES = 4
+METHOD_ENTRIES = 2
 
--- each trait of the linearisation
+abbrev pub BODY_ENTRIES : ℕ
+BODY_ENTRIES = 4
+
+-- each trait that is mixed in
 abbrev pub MIXIN_ENTRIES : ℕ
-MIXIN_ENTRIES = 10
+MIXIN_ENTRIES = 5
 
--- each field and each method that is taken from a trait
-abbrev pub TAKEN_ENTRIES : ℕ
-TAKEN_ENTRIES = 20
+-- each field, each method and each lazy member that is taken from a trait
+abbrev pub TAKEN_FIELD_ENTRIES : ℕ
+TAKEN_FIELD_ENTRIES = 30
 
--- each cell that is taken from a trait
+abbrev pub TAKEN_METHOD_ENTRIES : ℕ
+TAKEN_METHOD_ENTRIES = 12
+
 abbrev pub TAKEN_CELL_ENTRIES : ℕ
-TAKEN_CELL_ENTRIES = 60
+TAKEN_CELL_ENTRIES = 48
 
 -- each call by `super` that stands in a trait that is mixed in
 abbrev pub SUPER_ENTRIES : ℕ
-SUPER_ENTRIES = 10
+SUPER_ENTRIES = 12
 
--- how many traits stand in a linearisation
-abbrev pub traits : List Class → List ℕ → ℕ
-traits classes linear = count_by (is_trait classes) linear
+-- the trees of a method
+abbrev pub body_size : Ahead → Option Expr → Size
+body_size ahead None = nothing
+body_size ahead (Some body) = expr_size ahead body
 
--- whether a class with this superclass mixes in a class of its linearisation: a trait that the superclass lacks
-abbrev pub mixes_in : List Class → Option ℕ → ℕ → Bool
-mixes_in classes super class = is_trait classes class && not (reaches classes super class)
+-- the trees of a class: the arguments of the superclass constructor, the statements, the initialisers of lazy members
+-- and the bodies of methods
+abbrev pub class_size : Ahead → Class → Size
+class_size ahead class =
+    merged (merged (all_exprs ahead class.super_args) (all_exprs ahead class.body))
+    (merged (together (map (λ cell. expr_size ahead cell.init) class.cells))
+    (together (map (λ method. body_size ahead method.body) class.methods)))
 
--- a number of a body, where there is one
-abbrev pub in_body : (Tree → ℕ) → Option Expr → ℕ
-in_body number None = 0
-in_body number (Some body) = number (ExprTree body)
-
--- a number of all trees of a class: its constructor, the initialisers of its cells and the bodies of its methods
-abbrev pub in_class : (Tree → ℕ) → Class → ℕ
-in_class number class =
-    number (ConstructorTree class) + sum_by (λ cell. number (ExprTree cell.init)) class.cells
-    + sum_by (λ method. in_body number method.body) class.methods
+-- the entries of a method without its body
+abbrev pub method_entries : Method → ℕ
+method_entries method = METHOD_ENTRIES + (if is_some method.body then BODY_ENTRIES else 0)
 
 -- a method that a class takes from a trait: one with a body that isn't static
 abbrev pub is_taken : Method → Bool
 is_taken method = is_some method.body && not method.is_static
 
 -- what a trait brings to a class that mixes it in
-abbrev pub trait_entries : Class → ℕ
-trait_entries trait =
-    TAKEN_ENTRIES * length trait.fields + TAKEN_CELL_ENTRIES * length trait.cells
-    + TAKEN_ENTRIES * count_by is_taken trait.methods + SUPER_ENTRIES * in_class supers trait
+abbrev pub trait_entries : Ahead → Class → ℕ
+trait_entries ahead trait =
+    MIXIN_ENTRIES + TAKEN_FIELD_ENTRIES * length trait.fields + TAKEN_CELL_ENTRIES * length trait.cells
+    + TAKEN_METHOD_ENTRIES * count_by is_taken trait.methods
+    + SUPER_ENTRIES * (class_size ahead trait).supers
 
--- what a class of a linearisation brings to a class with this superclass
-abbrev pub taken_entries : List Class → Option ℕ → ℕ → ℕ
-taken_entries classes super class =
-    if mixes_in classes super class then unwrap_or (option_map trait_entries (slice_get classes class)) 0 else 0
-
--- what a class takes from the traits that it mixes in; its linearisation begins with itself (SLS 5.1.2)
-abbrev pub all_taken : List Class → Class → ℕ
-all_taken classes class = sum_by (taken_entries classes (superclass classes class.parents)) (drop 1 class.linear)
+-- the same by the number of the trait
+abbrev pub taken_entries : Ahead → List Class → ℕ → ℕ
+taken_entries ahead classes trait = unwrap_or (option_map (trait_entries ahead) (slice_get classes trait)) 0
 
 -- what the parts of a class bring, without its trees
-abbrev pub part_entries : Class → ℕ
-part_entries class =
-    PARENT_ENTRIES * length class.parents + PARAMETER_ENTRIES * length class.params + FIELD_ENTRIES * length class.fields
-    + CELL_ENTRIES * length class.cells + METHOD_ENTRIES * length class.methods
+abbrev pub part_entries : Ahead → Class → ℕ
+part_entries ahead class =
+    PARAMETER_ENTRIES * length class.params + field_entries ahead * length class.fields
+    + CELL_ENTRIES * length class.cells + sum_by method_entries class.methods
 
 -- the entries of a class
-abbrev pub class_entries : List Class → Class → ℕ
-class_entries classes class =
-    CLASS_ENTRIES + part_entries class + MIXIN_ENTRIES * traits classes class.linear + all_taken classes class
-    + in_class entries class
+abbrev pub class_entries : Ahead → List Class → Class → ℕ
+class_entries ahead classes class =
+    FILE_ENTRIES + NAMED_ENTRIES * length classes + part_entries ahead class
+    + sum_by (taken_entries ahead classes) class.mixins + (class_size ahead class).entries
 
--- a body weighs what its tree does, and 1 for each local past those that have values
-abbrev pub body_weight : ℕ → ℕ → Tree → ℕ
-body_weight given locals tree = weight tree + (locals - given)
+-- a body weighs what its tree does, what ends it, and 1 for each local past those that have values
+abbrev pub body_weight : Ahead → ℕ → ℕ → Expr → ℕ
+body_weight ahead given locals body = (expr_size ahead body).value + RETURN_WEIGHT + (locals - given)
 
--- a constructor weighs more: it stores its arguments, begins the fields of traits and stores the reference of an object
-abbrev pub constructor_weight : List Class → Class → ℕ
-constructor_weight classes class =
-    body_weight (length class.params) class.locals (ConstructorTree class) + PARAMETER_WEIGHT * length class.params
-    + MIXIN_WEIGHT * traits classes class.linear + OBJECT_WEIGHT
+-- the call of the superclass constructor
+abbrev pub superclass_size : Ahead → List Expr → Size
+superclass_size ahead args = node_size (making 4 0 0) (all_exprs ahead args)
 
-abbrev pub BodyHasRoom : Method → Option Expr → Type 0
-BodyHasRoom method None = Unit
-BodyHasRoom method (Some body) = body_weight (length method.params) method.locals (ExprTree body) ≤ MOST_WEIGHT
+-- a constructor weighs the call of the superclass constructor, its statements, whose values are dropped, what it does
+-- with parameters, traits and the reference of an object, what ends it, and its locals
+abbrev pub constructor_weight : Ahead → Class → ℕ
+constructor_weight ahead class =
+    (superclass_size ahead class.super_args).value + sum_by (λ e. (expr_size ahead e).value + 1) class.body
+    + PARAMETER_WEIGHT * length class.params + MIXIN_WEIGHT * length class.mixins
+    + (if ahead.objects then OBJECT_WEIGHT else 0) + RETURN_WEIGHT + (class.locals - length class.params)
 
-abbrev pub MethodHasRoom : Method → Type 0
-MethodHasRoom method = BodyHasRoom method method.body
+-- a body is light enough, where there is one
+abbrev pub BodyHasRoom : Ahead → Method → Option Expr → Type 0
+BodyHasRoom ahead method None = Unit
+BodyHasRoom ahead method (Some body) = body_weight ahead (length method.params) method.locals body ≤ MOST_WEIGHT
 
-abbrev pub CellHasRoom : Cell → Type 0
-CellHasRoom cell = body_weight 0 cell.locals (ExprTree cell.init) ≤ MOST_WEIGHT
+-- a method has room
+abbrev pub MethodHasRoom : Ahead → Method → Type 0
+MethodHasRoom ahead method = BodyHasRoom ahead method method.body
 
-pub record ClassHasRoom (classes : List Class) (class : Class) : Type 0 where
-  pub constructor : constructor_weight classes class ≤ MOST_WEIGHT
-  pub cells : All CellHasRoom class.cells
-  pub methods : All MethodHasRoom class.methods
-  pub pool : class_entries classes class ≤ MOST_ENTRIES
+-- a lazy member has room
+unfoldable pub CellHasRoom : Ahead → Cell → Type 0
+CellHasRoom ahead cell = body_weight ahead 0 cell.locals cell.init ≤ MOST_WEIGHT
 
-pub record Room (p : Program) : Type 0 where
-  pub classes : All (ClassHasRoom p.classes) p.classes
+-- a class has room
+pub record ClassHasRoom (ahead : Ahead) (classes : List Class) (class : Class) : Type 0 where
+  pub constructor : constructor_weight ahead class ≤ MOST_WEIGHT
+  pub cells : All (CellHasRoom ahead) class.cells
+  pub methods : All (MethodHasRoom ahead) class.methods
+  pub pool : class_entries ahead classes class ≤ MOST_ENTRIES
+
+-- a program has room when the first k lowerings are done
+pub record Room (k : ℕ) (p : Program) : Type 0 where
+  pub classes : All (ClassHasRoom (ahead_of k) p.classes) p.classes

@@ -1,47 +1,154 @@
-//! The numbers of room. They are provisional: a pass that makes more of a part raises the part's number here and in the
-//! definition.
+//! The numbers of each form without its parts: bytes of code and entries of a constant pool, at most.
 
-/// The most that a body may weigh.
-pub const MOST_WEIGHT: u32 = 32_000;
+ghost use Rattle.std.specs.Prelude.{◌≡◌, ◌≤◌};
+ghost use Rattle.ty_room.specs.Numbers.{handler_bytes, form, operation, deciding, making, operator_numbers, convert_bytes, this_bytes, get_numbers, put_numbers};
 
-/// The most entries that a class may bring.
-pub const MOST_ENTRIES: u32 = 64_000;
+use crate::ahead::Ahead;
+use ty_prog::{PrimOp, Ty};
 
-/// What a constructor does with each class parameter.
-pub const PARAMETER_WEIGHT: u32 = 8;
+/// What a form takes without its parts.
+#[derive(Clone, Copy)]
+pub(crate) struct Numbers {
+    /// Bytes of code, for its value.
+    pub bytes: u32,
+    /// Bytes of code, as a test.
+    pub jump: u32,
+    /// Entries of a constant pool.
+    pub entries: u32,
+    /// Calls by `super`.
+    pub supers: u32,
+    /// Whether its parts are operands, which are kept in locals while a `try` runs.
+    pub keeps: bool,
+    /// Bytes to keep an operand that is no part.
+    pub more: u32,
+}
 
-/// What a constructor does with each trait.
-pub const MIXIN_WEIGHT: u32 = 8;
+/// Bytes of a handler.
+pub(crate) fn handler_bytes(ahead: Ahead) -> u32
+    ensures bytes { result ≡ handler_bytes ahead }
+    ensures few { result ≤ 100 }
+{
+    if ahead.matches { 13 } else { 7 }
+}
 
-/// What stores the reference of an object.
-pub const OBJECT_WEIGHT: u32 = 12;
+/// Bytes of a `finally`.
+pub(crate) const FINALLY_BYTES: u32 = 38;
 
-/// What each class file may bring, whatever it holds.
-pub const CLASS_ENTRIES: u32 = 4000;
+/// Bytes of a case.
+pub(crate) const CASE_BYTES: u32 = 3;
 
-/// What each parent brings.
-pub const PARENT_ENTRIES: u32 = 10;
+/// Bytes of a pattern of a case class, without reading its parts.
+pub(crate) const MAKE_BYTES: u32 = 24;
 
-/// What each class parameter brings.
-pub const PARAMETER_ENTRIES: u32 = 10;
+/// Bytes to keep an object of its class, so that its parts are read from there.
+pub(crate) const MADE_BYTES: u32 = 14;
 
-/// What each field of a class's own brings.
-pub const FIELD_ENTRIES: u32 = 4;
+/// A form whose parts aren't operands.
+pub(crate) fn form(bytes: u32, entries: u32) -> Numbers
+    requires { bytes ≤ 100 }
+    ensures { result ≡ form bytes entries }
+{
+    Numbers {
+        bytes,
+        jump: bytes + 3,
+        entries,
+        supers: 0,
+        keeps: false,
+        more: 0,
+    }
+}
 
-/// What each cell of a class's own brings: its field, initialiser and accessor.
-pub const CELL_ENTRIES: u32 = 60;
+/// An operation on its parts.
+pub(crate) fn operation(bytes: u32, entries: u32) -> Numbers
+    requires { bytes ≤ 100 }
+    ensures { result ≡ operation bytes entries }
+{
+    Numbers {
+        keeps: true,
+        ..form(bytes, entries)
+    }
+}
 
-/// What each method of a class's own brings.
-pub const METHOD_ENTRIES: u32 = 4;
+/// An operation that jumps by itself.
+pub(crate) fn deciding(bytes: u32, jump: u32) -> Numbers
+    requires { bytes ≤ 100 }
+    ensures { result ≡ deciding bytes jump }
+{
+    Numbers {
+        jump,
+        ..operation(bytes, 0)
+    }
+}
 
-/// What each trait of the linearisation brings.
-pub const MIXIN_ENTRIES: u32 = 10;
+/// An operation with an operand that is no part.
+pub(crate) fn making(bytes: u32, entries: u32, supers: u32) -> Numbers
+    requires { bytes ≤ 100 }
+    ensures { result ≡ making bytes entries supers }
+{
+    Numbers {
+        more: 8,
+        supers,
+        ..operation(bytes, entries)
+    }
+}
 
-/// What each field and each method that is taken from a trait brings.
-pub const TAKEN_ENTRIES: u32 = 20;
+/// Bytes of `this`, which may become a local.
+pub(crate) fn this_bytes(ahead: Ahead) -> u32
+    ensures bytes { result ≡ this_bytes ahead }
+    ensures few { result ≤ 100 }
+{
+    if ahead.traits { 4 } else { 1 }
+}
 
-/// What each cell that is taken from a trait brings.
-pub const TAKEN_CELL_ENTRIES: u32 = 60;
+/// A read of a field, which may become a call.
+pub(crate) fn get_numbers(ahead: Ahead) -> Numbers
+    ensures { result ≡ get_numbers ahead }
+{
+    if ahead.traits {
+        operation(6, 4)
+    } else {
+        operation(3, 3)
+    }
+}
 
-/// What each call by `super` brings that stands in a trait that is mixed in.
-pub const SUPER_ENTRIES: u32 = 10;
+/// A write of a field, which may become a call.
+pub(crate) fn put_numbers(ahead: Ahead) -> Numbers
+    ensures { result ≡ put_numbers ahead }
+{
+    if ahead.traits {
+        operation(6, 4)
+    } else {
+        operation(4, 3)
+    }
+}
+
+/// What an operator takes without its operands.
+pub(crate) fn operator_numbers(op: PrimOp) -> Numbers
+    ensures { result ≡ operator_numbers op }
+{
+    match op {
+        PrimOp::Less | PrimOp::AtMost | PrimOp::Greater | PrimOp::AtLeast => deciding(9, 4),
+        PrimOp::Same => deciding(8, 3),
+        PrimOp::Not => form(2, 0),
+        PrimOp::Concat | PrimOp::Equals => operation(3, 0),
+        PrimOp::Length
+        | PrimOp::IsEmpty
+        | PrimOp::ToString
+        | PrimOp::ClassName
+        | PrimOp::Evaluating
+        | PrimOp::NullValue => form(3, 0),
+        _ => operation(1, 0),
+    }
+}
+
+/// Bytes of a conversion.
+pub(crate) fn convert_bytes(to: Ty) -> u32
+    ensures bytes { result ≡ convert_bytes to }
+    ensures few { result ≤ 100 }
+{
+    match to {
+        Ty::Any => 4,
+        Ty::Unit => 5,
+        _ => 3,
+    }
+}

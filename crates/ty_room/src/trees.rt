@@ -1,50 +1,57 @@
-//! Sums over all trees of a class.
+//! All trees of a class.
 
-ghost use Rattle.std.specs.Prelude.{◌≡◌, sum_by};
-ghost use Rattle.ty_prog.specs.Tree.{ExprTree};
-ghost use Rattle.ty_room.specs.Room.{in_body, in_class};
-ghost use Rattle.ty_room.specs.Sums.{capped, tree_sum};
+ghost use Rattle.std.specs.Prelude.{map};
+ghost use Rattle.ty_room.specs.Capped.{IsSize};
+ghost use Rattle.ty_room.specs.Sizing.{together, expr_size};
+ghost use Rattle.ty_room.specs.Room.{body_size, class_size};
 
-use crate::capping::{add, plus};
-use crate::count::Count;
-use crate::sums::tree_sum;
-use ty_prog::{Cell, Class, Method, Node};
+use crate::ahead::Ahead;
+use crate::combining::{beside, merged, nothing};
+use crate::size::Size;
+use crate::sizing::{all_exprs, expr_size};
+use ty_prog::{Cell, Class, Expr, Method};
 
-/// The sum over a class's constructor, the initialisers of its cells and the bodies of its methods.
-pub(crate) fn in_class(what: Count, class: &Class) -> u32
-    ensures { result ≡ capped (in_class (tree_sum what) class.now) }
+/// What all trees of a class take.
+pub(crate) fn class_size(ahead: Ahead, class: &Class) -> Size
+    ensures { IsSize result (class_size ahead class.now) }
 {
-    let constructor = tree_sum(what, Node::Constructor(class));
-    let cells = in_cells(what, class.cells.as_slice());
-    let methods = in_methods(what, class.methods.as_slice());
-    add(add(constructor, cells), methods)
+    merged(
+        merged(
+            all_exprs(ahead, class.super_args.as_slice()),
+            all_exprs(ahead, class.body.as_slice()),
+        ),
+        merged(
+            all_cells(ahead, class.cells.as_slice()),
+            all_methods(ahead, class.methods.as_slice()),
+        ),
+    )
 }
 
-fn in_cells(what: Count, cells: &[Cell]) -> u32
-    ensures { result ≡ capped (sum_by (λ cell. tree_sum what (ExprTree cell.init)) cells.now) }
+fn all_cells(ahead: Ahead, cells: &[Cell]) -> Size
+    ensures { IsSize result (together (map (λ cell. expr_size ahead cell.init) cells.now)) }
 {
-    let mut so_far = 0;
+    let mut so_far = nothing();
     for cell in cells {
-        so_far = plus(so_far, tree_sum(what, Node::Expr(&cell.init)));
+        so_far = beside(so_far, expr_size(ahead, &cell.init));
     }
     so_far
 }
 
-fn in_methods(what: Count, methods: &[Method]) -> u32
-    ensures { result ≡ capped (sum_by (λ method. in_body (tree_sum what) method.body) methods.now) }
+fn all_methods(ahead: Ahead, methods: &[Method]) -> Size
+    ensures { IsSize result (together (map (λ method. body_size ahead method.body) methods.now)) }
 {
-    let mut so_far = 0;
+    let mut so_far = nothing();
     for method in methods {
-        so_far = plus(so_far, in_body(what, method));
+        so_far = beside(so_far, body_size(ahead, &method.body));
     }
     so_far
 }
 
-fn in_body(what: Count, method: &Method) -> u32
-    ensures { result ≡ capped (in_body (tree_sum what) method.now.body) }
+fn body_size(ahead: Ahead, body: &Option<Expr>) -> Size
+    ensures { IsSize result (body_size ahead body.now) }
 {
-    match &method.body {
-        Some(body) => tree_sum(what, Node::Expr(body)),
-        None => 0,
+    match body {
+        None => nothing(),
+        Some(body) => expr_size(ahead, body),
     }
 }

@@ -36,13 +36,16 @@ abbrev pub this_of : ℕ → Method → Option ℕ
 this_of class method = if method.is_static then None else Some class
 
 module _ (p : Program) (class : ℕ) where
+  -- a body, if there is one, gives what the method declares
   abbrev pub SomeBodyTyped : Method → List Ty → Option Expr → Type 0
   SomeBodyTyped method locals None = Unit
   SomeBodyTyped method locals (Some body) = Gives p (this_of class method) method.params method.locals locals body method.result
 
+  -- the method is typed where its locals have these types
   abbrev pub MethodTyped : Method → List Ty → Type 0
   MethodTyped method locals = SomeBodyTyped method locals method.body
 
+  -- the initialiser of a cell is
   abbrev pub CellTyped : Cell → List Ty → Type 0
   CellTyped cell locals = Gives p (Some class) [] cell.locals locals cell.init cell.ty
 

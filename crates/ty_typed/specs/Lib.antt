@@ -1,8 +1,11 @@
+-- What a reader must believe.
 pub mod Bodies
-pub mod Looked
+pub mod Kinds
 pub mod Members
 pub mod NodeTyped
-pub mod Parts
-pub mod Scopes
 pub mod Stands
 pub mod Types
+-- For proofs only.
+pub mod Looked
+pub mod Parts
+pub mod Scopes

@@ -1,14 +1,11 @@
 -- The types that the members of classes are declared with.
-use Rattle.std.specs.Prelude.{ℕ, Bool, true, false, nat_lt, List, [], ◌∷◌, ◌++◌, Option, slice_get, option_map, option_and_then, option_to_list, length, if◌then◌else◌}
+use Rattle.std.specs.Prelude.{ℕ, List, [], ◌∷◌, ◌++◌, Option, slice_get, option_map, option_and_then, option_to_list, if◌then◌else◌}
 use Rattle.std.specs.Option.{unwrap_or}
 use Rattle.ty_prog.specs.declared.class.Class.{Class}
 use Rattle.ty_prog.specs.declared.field.Field.{Field}
 use Rattle.ty_prog.specs.declared.method.Method.{Method}
-use Rattle.ty_prog.specs.declared.kind.Kind.{Kind}
-use Rattle.ty_prog.specs.declared.kind.Kind.TheVariants as kind
 use Rattle.ty_prog.specs.declared.program.Program.{Program}
 use Rattle.ty_prog.specs.declared.ty.Ty.{Ty}
-use Rattle.ty_prog.specs.declared.ty.Ty.TheVariants as ty
 use Rattle.ty_prog.specs.Find.{super_find}
 use Rattle.ty_conform.specs.Kinds.{is_trait_kind, is_trait}
 
@@ -24,6 +21,7 @@ cell_type classes class cell = option_and_then (λ c. option_map (λ x. x.ty) (s
 abbrev pub method_at : List Class → ℕ → ℕ → Option Method
 method_at classes class method = option_and_then (λ c. slice_get c.methods method) (slice_get classes class)
 
+-- the result of a method, if there is one
 abbrev pub result_of : Option Method → Option Ty
 result_of method = option_map (λ m. m.result) method
 
@@ -41,6 +39,7 @@ types_of_fields fields (field ∷ rest) = option_to_list (option_map (λ f. f.ty
 abbrev pub param_types : Class → List Ty
 param_types class = types_of_fields class.fields class.params
 
+-- the types of the parameters of the class with a number
 abbrev pub param_types_at : List Class → ℕ → Option (List Ty)
 param_types_at classes class = option_map param_types (slice_get classes class)
 
@@ -50,5 +49,6 @@ abbrev pub first_params : List Class → List ℕ → List Ty
 first_params classes [] = []
 first_params classes (first ∷ rest) = if is_trait classes first then [] else unwrap_or (param_types_at classes first) []
 
+-- what the constructor of a class hands its superclass's
 abbrev pub super_params : List Class → Class → List Ty
 super_params classes class = if is_trait_kind class.kind then [] else first_params classes class.parents

@@ -16,19 +16,21 @@ use Rattle.ty_prog.specs.declared.tested.Tested.{Tested}
 use Rattle.ty_prog.specs.declared.tested.Tested.TheVariants as tested
 use Rattle.ty_prog.specs.declared.ty.Ty.{Ty}
 use Rattle.ty_prog.specs.declared.ty.Ty.TheVariants as ty
-use Rattle.ty_prog.specs.Tree.{Tree, ExprTree, CaseTree, PatternTree, ConstructorTree, ExprLevel, PatternLevel}
+use Rattle.ty_prog.specs.Tree.{Tree, ExprTree, CaseTree, PatternTree, ConstructorTree, StageTree, ExprLevel, PatternLevel}
 use Rattle.ty_typed.specs.Stands.{fits, common, compared, numbers, bits, is_value, all_fit, is_any}
 use Rattle.ty_typed.specs.Members.{field_type, cell_type, method_at, super_method, param_types_at, super_params}
-use Rattle.ty_conform.specs.Kinds.{is_object, is_known}
+use Rattle.ty_conform.specs.Kinds.{is_object, is_superclass, is_known}
 use Rattle.ty_typed.specs.Types.{types_of, asks, takes, is_tested}
 
 -- Throwable and Thread, by their numbers in the prelude
 abbrev pub throwable : Ty
 throwable = ty.Class 2
 
+-- the type of Thread
 abbrev pub thread : Ty
 thread = ty.Class 1
 
+-- a literal
 abbrev pub is_literal : ExprLevel → Bool
 is_literal (Expr-F.Int n) = true
 is_literal (Expr-F.Long n) = true
@@ -36,6 +38,11 @@ is_literal (Expr-F.Bool b) = true
 is_literal (Expr-F.Text text) = true
 is_literal Expr-F.Null = true
 is_literal other = false
+
+-- `this`
+abbrev pub is_this : ExprLevel → Bool
+is_this Expr-F.This = true
+is_this other = false
 
 -- two operands, for which one of some types is wanted
 abbrev pub two_of : List Class → List Ty → List (List Ty) → Bool
@@ -98,8 +105,10 @@ converts classes reference to = narrows_to classes to
 -- what a test asks for can be asked for
 abbrev pub can_test : List Class → Tested → Bool
 can_test classes tested.Latch = true
+can_test classes tested.Evaluating = true
 can_test classes (tested.OfType type) = is_tested classes type
 
+-- as wanted: static, or not
 abbrev pub is_as : Bool → Bool → Bool
 is_as true static = static
 is_as false static = not static
@@ -110,6 +119,7 @@ module _ (classes : List Class) where
   fits_some types None = false
   fits_some types (Some wanted) = fits classes types wanted
 
+  -- the values fit the types, if there are any
   abbrev pub all_fit_some : List (List Ty) → Option (List Ty) → Bool
   all_fit_some several None = false
   all_fit_some several (Some wanted) = all_fit classes several wanted
@@ -120,6 +130,7 @@ module _ (classes : List Class) where
   takes_args static args (Some method) = is_as static method.is_static && all_fit classes args method.params
 
 module _ (p : Program) (this : Option ℕ) (locals : List Ty) where
+  -- the types of an expression at this place
   abbrev pub types : Expr → List Ty
   types = types_of p this locals
 
@@ -135,6 +146,7 @@ module _ (p : Program) (this : Option ℕ) (locals : List Ty) where
   abbrev pub is_dropped : Expr → Bool
   is_dropped e = is_value p.classes (types e)
 
+  -- the values of all but the last are dropped
   abbrev pub drops_all_but_last : List Expr → Bool
   drops_all_but_last [] = true
   drops_all_but_last (e ∷ []) = true
@@ -144,6 +156,7 @@ module _ (p : Program) (this : Option ℕ) (locals : List Ty) where
   abbrev pub cases_hold : List Ty → List Case → Bool
   cases_hold looked_at cases = list_all (λ c. (asks p this locals (out-Case c).pattern).holds looked_at) cases
 
+  -- the cases of a handler, or its local, take a Throwable
   abbrev pub handler_level_typed : Catch-F Catch Expr Pattern Case → Bool
   handler_level_typed (Catch-F.Cases cases) = cases_hold (throwable ∷ []) cases
   handler_level_typed (Catch-F.«Catch::Any» local body) = takes p this locals local (throwable ∷ [])
@@ -152,8 +165,21 @@ module _ (p : Program) (this : Option ℕ) (locals : List Ty) where
   abbrev pub handler_typed : Option Catch → Bool
   handler_typed handler = unwrap_or (option_map (λ h. handler_level_typed (out-Catch h)) handler) true
 
+  -- the value of an expression, if there is one, is dropped
   abbrev pub some_dropped : Option Expr → Bool
   some_dropped e = unwrap_or (option_map is_dropped e) true
+
+  -- whether a class is a superclass of the one whose object `This` is
+  abbrev pub is_above : ℕ → Bool
+  is_above class = unwrap_or (option_map (λ lower. is_superclass p.classes lower class) this) false
+
+  -- a concrete method of a superclass, called without selection: the object is `This`, and the method takes the others
+  -- (JVMS 6.5, invokespecial)
+  abbrev pub calls_above : ℕ → Option Method → List Expr → Bool
+  calls_above class method [] = false
+  calls_above class None (first ∷ rest) = false
+  calls_above class (Some method) (first ∷ rest) =
+      is_this (out-Expr first) && is_above class && is_some method.body && takes_args p.classes false (map types rest) (Some method)
 
   -- each part of an expression has the type that its place wants; a part whose value is the expression's own is typed by
   -- whoever wants that
@@ -185,9 +211,12 @@ module _ (p : Program) (this : Option ℕ) (locals : List Ty) where
   expr_typed (Expr-F.Cas of class field old new) =
       expr_fits of (ty.Class class) && is_any (unwrap_or (field_type p.classes class field) ty.Nothing)
       && expr_fits old ty.Any && expr_fits new ty.Any
+  expr_typed (Expr-F.NewLatch e) = expr_fits e ty.Any
+  expr_typed (Expr-F.OwnedHere e) = expr_fits e ty.Any
   expr_typed (Expr-F.Await e) = expr_fits e ty.Any
   expr_typed (Expr-F.CountDown e) = expr_fits e ty.Any
-  expr_typed (Expr-F.StaticCall class method args) = takes_args p.classes true (map types args) (method_at p.classes class method)
+  expr_typed (Expr-F.StaticCall class method args) =
+      takes_args p.classes true (map types args) (method_at p.classes class method) || calls_above class (method_at p.classes class method) args
   expr_typed (Expr-F.ModuleGet class) = is_object p.classes class
   expr_typed (Expr-F.SetModule class e) = is_object p.classes class && expr_fits e (ty.Class class)
   expr_typed other = true
@@ -204,3 +233,4 @@ module _ (p : Program) (this : Option ℕ) (locals : List Ty) where
   node_typed (PatternTree pattern) = pattern_typed (out-Pattern pattern)
   node_typed (ConstructorTree class) =
       all_fit p.classes (map types class.super_args) (super_params p.classes class) && list_all is_dropped class.body
+  node_typed (StageTree stage) = true

@@ -28,6 +28,7 @@ abbrev pub suits : List Class → Wanted → Ty → Bool
 suits classes (wanted.Stands upper) lower = stands_for classes lower upper
 suits classes (wanted.Converts to) from = converts classes from to
 
+-- each of several types is what is wanted
 abbrev pub all_suit : List Class → Wanted → List Ty → Bool
 all_suit classes wanted types = list_all (λ lower. suits classes wanted lower) types
 
@@ -76,14 +77,18 @@ abbrev pub params_or_none : List Class → ℕ → List Ty
 params_or_none classes class = unwrap_or (param_types_at classes class) []
 
 module _ (p : Program) (this : Option ℕ) (locals : List Ty) where
+  -- the types of each of several expressions
   abbrev pub types_of_each : List Expr → List (List Ty)
   types_of_each es = map (types_of p this locals) es
 
+  -- the types of what a case gives
   abbrev pub types_of_case : Case → List Ty
   types_of_case = fold-Case (List Ty) (List Ty) Asks (List Ty) (handler_step p this locals) (types_step p this locals) (pattern_step p this locals) (case_step p this locals)
 
+  -- those of what a handler gives
   abbrev pub types_of_catch : Catch → List Ty
   types_of_catch = fold-Catch (List Ty) (List Ty) Asks (List Ty) (handler_step p this locals) (types_step p this locals) (pattern_step p this locals) (case_step p this locals)
 
+  -- those of what a handler gives, if there is one
   abbrev pub types_of_handler : Option Catch → List Ty
   types_of_handler handler = unwrap_or (option_map types_of_catch handler) []

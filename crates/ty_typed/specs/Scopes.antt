@@ -5,6 +5,7 @@ use Rattle.ty_prog.specs.declared.class.Class.{Class}
 use Rattle.ty_prog.specs.declared.ty.Ty.{Ty}
 use Rattle.ty_typed.specs.declared.scope.Scope.{Scope}
 
+-- the classes of the program at this place
 abbrev pub classes_of : Scope → List Class
 classes_of scope = scope.program.now.classes
 

@@ -8,6 +8,7 @@ use Rattle.ty_prog.specs.declared.ty.Ty.{Ty}
 use Rattle.ty_prog.specs.declared.ty.Ty.TheVariants as ty
 use Rattle.ty_conform.specs.Conforms.{conforms}
 
+-- the type Any
 abbrev pub is_any : Ty → Bool
 is_any ty.Any = true
 is_any other = false
@@ -43,9 +44,11 @@ kinds = ty.Any ∷ ty.Unit ∷ ty.Boolean ∷ ty.Int ∷ ty.Long ∷ ty.Array �
 abbrev pub compared : List Ty
 compared = ty.Any ∷ ty.Unit ∷ ty.Boolean ∷ ty.Int ∷ ty.Long ∷ []
 
+-- the types of numbers
 abbrev pub numbers : List Ty
 numbers = ty.Int ∷ ty.Long ∷ []
 
+-- the types on which bits are worked
 abbrev pub bits : List Ty
 bits = ty.Int ∷ ty.Long ∷ ty.Boolean ∷ []
 

@@ -93,7 +93,8 @@ module _ (p : Program) (this : Option ℕ) (locals : List Ty) where
   plain_types (Expr-F.SuperCall after name args) = option_to_list (result_of (super_method p this after name))
   plain_types (Expr-F.Test of test) = ty.Boolean ∷ []
   plain_types (Expr-F.Cas of class field old new) = ty.Boolean ∷ []
-  plain_types Expr-F.NewLatch = ty.Any ∷ []
+  plain_types (Expr-F.NewLatch e) = ty.Any ∷ []
+  plain_types (Expr-F.OwnedHere e) = ty.Boolean ∷ []
   plain_types (Expr-F.StaticCall class method args) = option_to_list (result_of (method_at p.classes class method))
   plain_types (Expr-F.ModuleGet class) = ty.Class class ∷ []
   plain_types other = ty.Unit ∷ []
@@ -107,6 +108,7 @@ module _ (p : Program) (this : Option ℕ) (locals : List Ty) where
   types_step (Expr-F.Match of cases) = all_of cases
   types_step other = plain_types other
 
+  -- the types of what a handler gives
   abbrev pub handler_step : Catch-F (List Ty) (List Ty) Asks (List Ty) → List Ty
   handler_step (Catch-F.Cases cases) = all_of cases
   handler_step (Catch-F.«Catch::Any» local body) = body
@@ -121,6 +123,7 @@ module _ (p : Program) (this : Option ℕ) (locals : List Ty) where
   parts_hold (part ∷ parts) (type ∷ params) = part.holds (type ∷ []) && parts_hold parts params
   parts_hold parts params = false
 
+  -- each pattern holds of the value of its parameter, where the class is there
   abbrev pub made_of : List Asks → Option (List Ty) → Bool
   made_of parts None = false
   made_of parts (Some params) = parts_hold parts params
@@ -147,6 +150,7 @@ module _ (p : Program) (this : Option ℕ) (locals : List Ty) where
   pattern_step (Pattern-F.Either parts) =
       record { holds = λ types. list_all (λ part. part.holds types) parts; matched = λ types. types }
 
+  -- the types of what a case gives
   abbrev pub case_step : Case-F (List Ty) (List Ty) Asks (List Ty) → List Ty
   case_step c = c.body
 

@@ -58,15 +58,14 @@ fn fields_take(scope: Scope<'_>, args: &Items<Expr>, fields: &[Field], params: &
 pub(crate) fn takes_args(
     scope: Scope<'_>,
     is_static: bool,
-    args: &Items<Expr>,
+    args: &[Expr],
     method: Option<&Method>,
 ) -> bool
     ensures { result ≡ takes_args (classes_of scope.entry) is_static (within scope.entry types_of_each args.now) (option_copied method.entry) }
 {
     match method {
         Some(method) => {
-            is_as(is_static, method.is_static)
-                && args_fit(scope, args.as_slice(), method.params.as_slice())
+            is_as(is_static, method.is_static) && args_fit(scope, args, method.params.as_slice())
         }
         None => false,
     }

@@ -1,6 +1,6 @@
 //! Whether a body is typed where its locals have some types.
 
-ghost use Rattle.std.specs.Prelude.{◌≡◌, ◌↔◌, IsTrue, IfOk, length, take};
+ghost use Rattle.std.specs.Prelude.{◌≡◌, ◌↔◌, IsTrue, length, take};
 ghost use Rattle.ty_prog.specs.Node.{tree_of};
 ghost use Rattle.ty_prog.specs.Tree.{ConstructorTree};
 ghost use Rattle.ty_walk.specs.Everywhere.{Everywhere};
@@ -12,7 +12,6 @@ ghost use Rattle.ty_typed.specs.Scopes.{within};
 
 use crate::expressions::expr_fits;
 use crate::member_types::next_type;
-use crate::no_memory::NoMemory;
 use crate::scope::Scope;
 use crate::typed_node::node_typed;
 use ty_prog::{Class, Expr, Field, Node, Ty};
@@ -35,26 +34,18 @@ impl Rule for Typed<'_> {
     }
 }
 
-fn nodes_typed(scope: Scope<'_>, root: Node<'_>) -> Result<bool, NoMemory>
-    ensures { IfOk result (λ answer. IsTrue answer ↔ Everywhere (λ node. IsTrue (within scope.entry node_typed node)) (tree_of root.entry)) }
+fn nodes_typed(scope: Scope<'_>, root: Node<'_>) -> bool
+    ensures { IsTrue result ↔ Everywhere (λ node. IsTrue (within scope.entry node_typed node)) (tree_of root.entry) }
 {
-    match holds_everywhere(&Typed { scope }, root) {
-        Ok(answer) => Ok(answer),
-        Err(_) => Err(NoMemory),
-    }
+    holds_everywhere(&Typed { scope }, root)
 }
 
 /// Whether the nodes of a body are typed, and its locals are so many, and begin with those given.
-pub(crate) fn body_typed(
-    scope: Scope<'_>,
-    given: &[Ty],
-    count: u32,
-    root: Node<'_>,
-) -> Result<bool, NoMemory>
-    ensures { IfOk result (λ answer. IsTrue answer ↔ BodyTyped scope.entry.program.now scope.entry.this given.now count scope.entry.locals.now (tree_of root.entry)) }
+pub(crate) fn body_typed(scope: Scope<'_>, given: &[Ty], count: u32, root: Node<'_>) -> bool
+    ensures { IsTrue result ↔ BodyTyped scope.entry.program.now scope.entry.this given.now count scope.entry.locals.now (tree_of root.entry) }
 {
     if !(is_count(scope.locals, count) && begin_with(scope.locals, given)) {
-        return Ok(false);
+        return false;
     }
     nodes_typed(scope, root)
 }
@@ -90,11 +81,11 @@ fn begins(locals: &[Ty], given: &[Ty]) -> bool
 }
 
 /// Whether the nodes of a constructor are typed, and its locals are so many, and begin with the parameters of the class.
-pub(crate) fn constructor_typed(scope: Scope<'_>, class: &Class) -> Result<bool, NoMemory>
-    ensures { IfOk result (λ answer. IsTrue answer ↔ BodyTyped scope.entry.program.now scope.entry.this (param_types class.now) class.now.locals scope.entry.locals.now (ConstructorTree class.now)) }
+pub(crate) fn constructor_typed(scope: Scope<'_>, class: &Class) -> bool
+    ensures { IsTrue result ↔ BodyTyped scope.entry.program.now scope.entry.this (param_types class.now) class.now.locals scope.entry.locals.now (ConstructorTree class.now) }
 {
     if !(is_count(scope.locals, class.locals) && begin_with_params(scope.locals, class)) {
-        return Ok(false);
+        return false;
     }
     nodes_typed(scope, Node::Constructor(class))
 }
@@ -132,17 +123,11 @@ fn is_same(one: Ty, other: Ty) -> bool
 }
 
 /// Whether a body is typed and gives a value of a type.
-pub(crate) fn gives(
-    scope: Scope<'_>,
-    given: &[Ty],
-    count: u32,
-    body: &Expr,
-    wanted: Ty,
-) -> Result<bool, NoMemory>
-    ensures { IfOk result (λ answer. IsTrue answer ↔ Gives scope.entry.program.now scope.entry.this given.now count scope.entry.locals.now body.now wanted) }
+pub(crate) fn gives(scope: Scope<'_>, given: &[Ty], count: u32, body: &Expr, wanted: Ty) -> bool
+    ensures { IsTrue result ↔ Gives scope.entry.program.now scope.entry.this given.now count scope.entry.locals.now body.now wanted }
 {
     if !expr_fits(scope, body, wanted) {
-        return Ok(false);
+        return false;
     }
     body_typed(scope, given, count, Node::Expr(body))
 }

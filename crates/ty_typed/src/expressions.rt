@@ -1,14 +1,12 @@
 //! Whether the values of expressions may stand where some type is wanted: the one recursion over expressions.
 
-ghost use Rattle.std.specs.Prelude.{◌≡◌, map, take};
-ghost use Rattle.std.specs.List.{list_all};
-ghost use Rattle.ty_typed.specs.Stands.{fits, common, numbers};
+ghost use Rattle.std.specs.Prelude.{◌≡◌, map};
 ghost use Rattle.ty_typed.specs.Scopes.{within, classes_of};
 ghost use Rattle.ty_typed.specs.Types.{types_of, last_of, all_of, prim_types};
 ghost use Rattle.ty_typed.specs.NodeTyped.{expr_fits};
-ghost use Rattle.ty_typed.specs.Parts.{all_suit, list_of, types_of_each, types_of_case, types_of_handler};
+ghost use Rattle.ty_typed.specs.Parts.{all_suit, types_of_each, types_of_case, types_of_handler};
 
-use crate::operands::{Choices, Given, given_by, list_of};
+use crate::kinds::prim_type;
 use crate::plain::plain_type;
 use crate::scope::Scope;
 use crate::wanting::{Wanted, some_suits, suits};
@@ -16,7 +14,6 @@ use sqlite_items::Items;
 use ty_prog::{Case, Catch, Expr, PrimOp, Ty};
 
 /// Whether the values of an expression may stand where one of a type is wanted.
-#[cycle(fitting)]
 pub fn expr_fits(scope: Scope<'_>, e: &Expr, wanted: Ty) -> bool
     ensures { result ≡ within scope.entry expr_fits e.now wanted }
 {
@@ -61,7 +58,8 @@ pub(crate) fn all_suit(scope: Scope<'_>, e: &Expr, wanted: Wanted) -> bool
         | Expr::SuperCall { .. }
         | Expr::Test { .. }
         | Expr::Cas { .. }
-        | Expr::NewLatch
+        | Expr::NewLatch(_)
+        | Expr::OwnedHere(_)
         | Expr::Await(_)
         | Expr::CountDown(_)
         | Expr::StaticCall { .. }
@@ -103,63 +101,8 @@ fn cases_suit(scope: Scope<'_>, cases: &Items<Case>, wanted: Wanted) -> bool
     true
 }
 
-#[cycle(fitting)]
 fn prim_suits(scope: Scope<'_>, op: PrimOp, args: &Items<Expr>, wanted: Wanted) -> bool
     ensures { result ≡ all_suit (classes_of scope.entry) wanted (prim_types (classes_of scope.entry) op (within scope.entry types_of_each args.now)) }
 {
-    match given_by(op) {
-        Given::Fixed(ty) => suits(scope.program, ty, wanted),
-        Given::OfAll(choices) => {
-            let common = common_of_all(scope, choices, args);
-            some_suits(scope.program, common, wanted)
-        }
-        Given::OfFirst => {
-            let first = first_number(scope, args);
-            some_suits(scope.program, first, wanted)
-        }
-    }
-}
-
-/// The first of some types for which the values of each of several expressions may stand.
-#[cycle(fitting)]
-pub(crate) fn common_of_all(scope: Scope<'_>, choices: Choices, args: &Items<Expr>) -> Option<Ty>
-    ensures { result ≡ common (classes_of scope.entry) (list_of choices) (within scope.entry types_of_each args.now) }
-{
-    for choice in list_of(choices) {
-        if all_fit_one(scope, args, *choice) {
-            return Some(*choice);
-        }
-    }
-    None
-}
-
-/// The first type of numbers for which the values of the first of several expressions may stand.
-#[cycle(fitting)]
-pub(crate) fn first_number(scope: Scope<'_>, args: &Items<Expr>) -> Option<Ty>
-    ensures { result ≡ common (classes_of scope.entry) numbers (take 1 (within scope.entry types_of_each args.now)) }
-{
-    match args.as_slice() {
-        [] => Some(Ty::Int),
-        [e, ..] => {
-            if expr_fits(scope, e, Ty::Int) {
-                Some(Ty::Int)
-            } else if expr_fits(scope, e, Ty::Long) {
-                Some(Ty::Long)
-            } else {
-                None
-            }
-        }
-    }
-}
-
-#[cycle(fitting)]
-fn all_fit_one(scope: Scope<'_>, args: &Items<Expr>, wanted: Ty) -> bool
-    ensures { result ≡ list_all (λ types. fits (classes_of scope.entry) types wanted) (within scope.entry types_of_each args.now) }
-{
-    for e in args.as_slice() {
-        if !expr_fits(scope, e, wanted) {
-            return false;
-        }
-    }
-    true
+    some_suits(scope.program, prim_type(scope, op, args), wanted)
 }

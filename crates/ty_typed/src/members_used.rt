@@ -1,12 +1,12 @@
 //! Whether the uses of members are typed: the object is one of the class, and the value what the member wants.
 
-ghost use Rattle.std.specs.Prelude.{◌≡◌, ◌&&◌, true, false, is_some};
+ghost use Rattle.std.specs.Prelude.{◌≡◌, ◌&&◌, ◌||◌, true, false, is_some, option_copied};
 ghost use Rattle.std.specs.Option.{unwrap_or};
 ghost use Rattle.ty_prog.specs.declared.ty.Ty.TheVariants as ty;
 ghost use Rattle.ty_typed.specs.Stands.{is_any};
 ghost use Rattle.ty_typed.specs.Members.{field_type, cell_type, method_at, super_method};
 ghost use Rattle.ty_conform.specs.Kinds.{is_object};
-ghost use Rattle.ty_typed.specs.NodeTyped.{expr_fits, fits_some, takes_args, can_test};
+ghost use Rattle.ty_typed.specs.NodeTyped.{expr_fits, fits_some, takes_args, can_test, calls_above, is_above};
 ghost use Rattle.ty_typed.specs.Types.{types_of};
 ghost use Rattle.ty_typed.specs.Parts.{types_of_each};
 ghost use Rattle.ty_typed.specs.Scopes.{within, classes_of};
@@ -18,8 +18,8 @@ use crate::pattern::is_tested;
 use crate::scope::Scope;
 use crate::standing::is_any;
 use sqlite_items::Items;
-use ty_conform::is_object;
-use ty_prog::{Class, Expr, Name, Tested, Ty};
+use ty_conform::{is_object, is_superclass};
+use ty_prog::{Class, Expr, Method, Name, Tested, Ty};
 
 /// Whether a field of an object is there to be read.
 pub(crate) fn get_typed(scope: Scope<'_>, of: &Expr, class: u32, field: u32) -> bool
@@ -59,7 +59,7 @@ pub(crate) fn call_typed(
         && takes_args (classes_of scope.entry) false (within scope.entry types_of_each args.now) (method_at (classes_of scope.entry) class method)) }
 {
     let called = method_at(scope.program.classes.as_slice(), class, method);
-    expr_fits(scope, of, Ty::Class(class)) && takes_args(scope, false, args, called)
+    expr_fits(scope, of, Ty::Class(class)) && takes_args(scope, false, args.as_slice(), called)
 }
 
 /// Whether the method that `super` means takes the arguments.
@@ -68,15 +68,45 @@ pub(crate) fn super_typed(scope: Scope<'_>, after: u32, name: &Name, args: &Item
         (super_method scope.entry.program.now scope.entry.this after name.now) }
 {
     let called = super_method(scope.program, scope.this, after, name);
-    takes_args(scope, false, args, called)
+    takes_args(scope, false, args.as_slice(), called)
 }
 
-/// Whether a static method takes the arguments.
+/// Whether a static method takes the arguments, or a method of a superclass that is called without selection.
 pub(crate) fn static_typed(scope: Scope<'_>, class: u32, method: u32, args: &Items<Expr>) -> bool
-    ensures { result ≡ takes_args (classes_of scope.entry) true (within scope.entry types_of_each args.now) (method_at (classes_of scope.entry) class method) }
+    ensures { result ≡ (takes_args (classes_of scope.entry) true (within scope.entry types_of_each args.now) (method_at (classes_of scope.entry) class method)
+        || within scope.entry calls_above class (method_at (classes_of scope.entry) class method) args.now) }
 {
     let called = method_at(scope.program.classes.as_slice(), class, method);
-    takes_args(scope, true, args, called)
+    takes_args(scope, true, args.as_slice(), called)
+        || calls_above(scope, class, called, args.as_slice())
+}
+
+// Whether a concrete method of a superclass takes `This` as its object, and the other arguments.
+fn calls_above(scope: Scope<'_>, class: u32, method: Option<&Method>, args: &[Expr]) -> bool
+    ensures { result ≡ within scope.entry calls_above class (option_copied method.entry) args.now }
+{
+    match args.split_first() {
+        Some((first, rest)) => match method {
+            Some(called) => {
+                matches!(*first, Expr::This)
+                    && is_above(scope, class)
+                    && called.body.is_some()
+                    && takes_args(scope, false, rest, method)
+            }
+            None => false,
+        },
+        None => false,
+    }
+}
+
+// Whether a class is a superclass of the one whose object `This` is.
+fn is_above(scope: Scope<'_>, class: u32) -> bool
+    ensures { result ≡ within scope.entry is_above class }
+{
+    match scope.this {
+        Some(lower) => is_superclass(scope.program.classes.as_slice(), lower, class),
+        None => false,
+    }
 }
 
 /// Whether a cell of an object is there to be read.
@@ -133,7 +163,7 @@ fn can_test(classes: &[Class], test: Tested) -> bool
     ensures { result ≡ can_test classes.now test }
 {
     match test {
-        Tested::Latch => true,
+        Tested::Latch | Tested::Evaluating => true,
         Tested::OfType(ty) => is_tested(classes, ty),
     }
 }

@@ -8,7 +8,7 @@ ghost use Rattle.ty_typed.specs.Parts.{list_of, types_of_each};
 ghost use Rattle.ty_typed.specs.Scopes.{within, classes_of};
 
 use crate::arguments::args_fit;
-use crate::expressions::{common_of_all, first_number};
+use crate::kinds::{common_of_all, first_number};
 use crate::operands::Choices;
 use crate::scope::Scope;
 use sqlite_items::Items;

@@ -18,11 +18,15 @@ pub(crate) fn plain_type(scope: Scope<'_>, e: &Expr) -> Option<Ty>
     match e {
         Expr::Int(_) => Some(Ty::Int),
         Expr::Long(_) => Some(Ty::Long),
-        Expr::Bool(_) | Expr::Equal(..) | Expr::Test { .. } | Expr::Cas { .. } => Some(Ty::Boolean),
+        Expr::Bool(_)
+        | Expr::Equal(..)
+        | Expr::Test { .. }
+        | Expr::Cas { .. }
+        | Expr::OwnedHere(_) => Some(Ty::Boolean),
         Expr::Text(_) | Expr::TextOf(_) => Some(Ty::Text),
         Expr::Null => Some(Ty::Null),
         Expr::Throw(_) => Some(Ty::Nothing),
-        Expr::NewLatch => Some(Ty::Any),
+        Expr::NewLatch(_) => Some(Ty::Any),
         Expr::Local(local) => local_type(scope.locals, *local),
         Expr::This => this_type(scope.this),
         Expr::Get { class, field, .. } => field_type(classes, *class, *field),

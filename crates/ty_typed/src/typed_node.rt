@@ -39,6 +39,7 @@ pub fn node_typed(scope: Scope<'_>, node: Node<'_>) -> bool
         Node::Case(c) => case_typed(scope, c),
         Node::Pattern(pattern) => pattern_typed(scope, pattern),
         Node::Constructor(class) => constructor_typed(scope, class),
+        Node::Stage(_) => true,
     }
 }
 
@@ -46,13 +47,8 @@ fn expr_typed(scope: Scope<'_>, e: &Expr) -> bool
     ensures { result ≡ within scope.entry expr_typed (out-Expr e.now) }
 {
     match e {
-        Expr::Int(_)
-        | Expr::Long(_)
-        | Expr::Bool(_)
-        | Expr::Text(_)
-        | Expr::Null
-        | Expr::Unit
-        | Expr::NewLatch => true,
+        Expr::Int(_) | Expr::Long(_) | Expr::Bool(_) | Expr::Text(_) | Expr::Null | Expr::Unit =>
+            true,
         Expr::Local(local) => local_type(scope.locals, *local).is_some(),
         Expr::SetLocal(local, e) => takes(scope, *local, Looked::At(e.get())),
         Expr::This => scope.this.is_some(),
@@ -95,7 +91,11 @@ fn expr_typed(scope: Scope<'_>, e: &Expr) -> bool
             old,
             new,
         } => cas_typed(scope, of.get(), *class, *field, old.get(), new.get()),
-        Expr::Await(e) | Expr::CountDown(e) => expr_fits(scope, e.get(), Ty::Any),
+        Expr::NewLatch(e) | Expr::OwnedHere(e) | Expr::Await(e) | Expr::CountDown(e) => expr_fits(
+            scope,
+            e.get(),
+            Ty::Any,
+        ),
         Expr::StaticCall {
             class,
             method,

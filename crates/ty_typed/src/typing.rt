@@ -3,17 +3,17 @@
 ghost use Rattle.std.specs.Prelude.{◌≡◌, ◌↔◌, IsTrue, IfOk};
 ghost use Rattle.ty_typed.specs.Bodies.{AllBoth, CellTyped, MethodTyped, ClassTyped, ClassesTyped, TypedWith, this_of};
 
+use crate::NoMemory;
 use crate::bodies::{constructor_typed, gives};
 use crate::class_locals::ClassLocals;
-use crate::no_memory::NoMemory;
 use crate::scope::Scope;
 use sqlite_items::Items;
 use ty_prog::{Cell, Class, Method, Program, Ty};
 
 const NONE: [Ty; 0] = [];
 
-/// Whether the program is typed where the locals of its classes have these types. Errors: want of memory, also for a
-/// program of 2^32 classes or more, and a node of 2^32 children or more.
+/// Whether the program is typed where the locals of its classes have these types. Errors: want of memory, for a
+/// program of 2^32 classes or more.
 pub fn is_typed_with(p: &Program, locals: &[ClassLocals]) -> Result<bool, NoMemory>
     ensures { IfOk result (λ answer. IsTrue answer ↔ TypedWith p.now locals.now) }
 {
@@ -23,7 +23,7 @@ pub fn is_typed_with(p: &Program, locals: &[ClassLocals]) -> Result<bool, NoMemo
     while let Some((class, more)) = classes.split_first() {
         match rest.split_first() {
             Some((first, behind)) => {
-                if !class_typed(p, number, class, first)? {
+                if !class_typed(p, number, class, first) {
                     return Ok(false);
                 }
                 if number == u32::MAX {
@@ -39,24 +39,19 @@ pub fn is_typed_with(p: &Program, locals: &[ClassLocals]) -> Result<bool, NoMemo
     Ok(rest.is_empty())
 }
 
-fn class_typed(
-    p: &Program,
-    number: u32,
-    class: &Class,
-    locals: &ClassLocals,
-) -> Result<bool, NoMemory>
-    ensures { IfOk result (λ answer. IsTrue answer ↔ ClassTyped p.now number class.now locals.now) }
+fn class_typed(p: &Program, number: u32, class: &Class, locals: &ClassLocals) -> bool
+    ensures { IsTrue result ↔ ClassTyped p.now number class.now locals.now }
 {
     let scope = Scope {
         program: p,
         this: Some(number),
         locals: locals.constructor.as_slice(),
     };
-    if !constructor_typed(scope, class)? {
-        return Ok(false);
+    if !constructor_typed(scope, class) {
+        return false;
     }
-    if !cells_typed(p, number, class.cells.as_slice(), locals.cells.as_slice())? {
-        return Ok(false);
+    if !cells_typed(p, number, class.cells.as_slice(), locals.cells.as_slice()) {
+        return false;
     }
     methods_typed(
         p,
@@ -66,33 +61,28 @@ fn class_typed(
     )
 }
 
-fn cells_typed(
-    p: &Program,
-    class: u32,
-    cells: &[Cell],
-    locals: &[Items<Ty>],
-) -> Result<bool, NoMemory>
-    ensures { IfOk result (λ answer. IsTrue answer ↔ AllBoth (CellTyped p.now class) cells.now locals.now) }
+fn cells_typed(p: &Program, class: u32, cells: &[Cell], locals: &[Items<Ty>]) -> bool
+    ensures { IsTrue result ↔ AllBoth (CellTyped p.now class) cells.now locals.now }
 {
     let mut cells = cells;
     let mut rest = locals;
     while let Some((cell, more)) = cells.split_first() {
         match rest.split_first() {
             Some((first, behind)) => {
-                if !cell_typed(p, class, cell, first.as_slice())? {
-                    return Ok(false);
+                if !cell_typed(p, class, cell, first.as_slice()) {
+                    return false;
                 }
                 cells = more;
                 rest = behind;
             }
-            None => return Ok(false),
+            None => return false,
         }
     }
-    Ok(rest.is_empty())
+    rest.is_empty()
 }
 
-fn cell_typed(p: &Program, class: u32, cell: &Cell, locals: &[Ty]) -> Result<bool, NoMemory>
-    ensures { IfOk result (λ answer. IsTrue answer ↔ CellTyped p.now class cell.now locals.now) }
+fn cell_typed(p: &Program, class: u32, cell: &Cell, locals: &[Ty]) -> bool
+    ensures { IsTrue result ↔ CellTyped p.now class cell.now locals.now }
 {
     let scope = Scope {
         program: p,
@@ -102,33 +92,28 @@ fn cell_typed(p: &Program, class: u32, cell: &Cell, locals: &[Ty]) -> Result<boo
     gives(scope, &NONE, cell.locals, &cell.init, cell.ty)
 }
 
-fn methods_typed(
-    p: &Program,
-    class: u32,
-    methods: &[Method],
-    locals: &[Items<Ty>],
-) -> Result<bool, NoMemory>
-    ensures { IfOk result (λ answer. IsTrue answer ↔ AllBoth (MethodTyped p.now class) methods.now locals.now) }
+fn methods_typed(p: &Program, class: u32, methods: &[Method], locals: &[Items<Ty>]) -> bool
+    ensures { IsTrue result ↔ AllBoth (MethodTyped p.now class) methods.now locals.now }
 {
     let mut methods = methods;
     let mut rest = locals;
     while let Some((method, more)) = methods.split_first() {
         match rest.split_first() {
             Some((first, behind)) => {
-                if !method_typed(p, class, method, first.as_slice())? {
-                    return Ok(false);
+                if !method_typed(p, class, method, first.as_slice()) {
+                    return false;
                 }
                 methods = more;
                 rest = behind;
             }
-            None => return Ok(false),
+            None => return false,
         }
     }
-    Ok(rest.is_empty())
+    rest.is_empty()
 }
 
-fn method_typed(p: &Program, class: u32, method: &Method, locals: &[Ty]) -> Result<bool, NoMemory>
-    ensures { IfOk result (λ answer. IsTrue answer ↔ MethodTyped p.now class method.now locals.now) }
+fn method_typed(p: &Program, class: u32, method: &Method, locals: &[Ty]) -> bool
+    ensures { IsTrue result ↔ MethodTyped p.now class method.now locals.now }
 {
     let scope = Scope {
         program: p,
@@ -143,7 +128,7 @@ fn method_typed(p: &Program, class: u32, method: &Method, locals: &[Ty]) -> Resu
             body,
             method.result,
         ),
-        None => Ok(true),
+        None => true,
     }
 }
 

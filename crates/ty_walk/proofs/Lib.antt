@@ -1,2 +1,3 @@
 pub mod Spreading
 pub mod Standing
+pub mod Sums

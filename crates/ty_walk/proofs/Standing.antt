@@ -1,8 +1,8 @@
 -- What holds of each node that stands in a class holds everywhere in its parts.
-use Rattle.std.proofs.Common.{◌≡◌, ℕ, ◌+◌, ◌<◌, ◌≤◌, length, take, get_or, List, Some, Result, Ok, Err, refl, sym, subst, ◌∙◌}
+use Rattle.std.proofs.Common.{◌≡◌, ℕ, ◌+◌, ◌<◌, ◌≤◌, length, take, get_or, List, Some, refl, sym, subst, ◌∙◌}
 use Rattle.std.proofs.lemmas.List.Elements.{All-weaker, All-contains, All-contains_itself, All-get_or, All-more}
 use Rattle.std.proofs.lemmas.List.{take_all}
-use Rattle.std.specs.Prelude.{Bool, true, false, IsTrue, IfOk, ◌↔◌}
+use Rattle.std.specs.Prelude.{Bool, true, false, IsTrue, ◌↔◌}
 use Rattle.std.specs.List.{All, Contains}
 use Rattle.ty_prog.specs.declared.class.Class.{Class}
 use Rattle.ty_prog.specs.declared.expr.Expr.{Expr}
@@ -45,12 +45,8 @@ module _ (P : Tree → Type 0) where
     in_its_parts constructor cells methods = record { each = at_part constructor cells methods }
 
 -- answers that say as much
-told_as_much : {A B : Type 0} → (A → B) → (B → A) → (answer : Bool) → IsTrue answer ↔ A → IsTrue answer ↔ B
+pub told_as_much : {A B : Type 0} → (A → B) → (B → A) → (answer : Bool) → IsTrue answer ↔ A → IsTrue answer ↔ B
 told_as_much to from answer told = (λ h. to (told.0 h), λ b. told.1 (from b))
-
-pub if_ok_as_much : {E A B : Type 0} → (A → B) → (B → A) → (r : Result Bool E) → IfOk r (λ answer. IsTrue answer ↔ A) → IfOk r (λ answer. IsTrue answer ↔ B)
-if_ok_as_much to from (Ok answer) told = told_as_much to from answer told
-if_ok_as_much to from (Err e) told = told
 
 pub broken_in_part : (A B : Type 0) → (B → A) → (answer : Bool) → IsTrue answer ↔ A → answer ≡ false → IsTrue false ↔ B
 broken_in_part A B part answer told breaks = (λ h. absurd (cc), λ all. let kept : answer ≡ true = told.1 (part all) in cc)

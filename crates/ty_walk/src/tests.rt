@@ -1,8 +1,13 @@
-use crate::{Rule, holds_everywhere, holds_in_class, holds_in_program};
+use crate::{
+    Measure, Rule, holds_everywhere, holds_in_class, holds_in_program, nodes, same_class,
+    same_program, same_tree, total,
+};
 use sqlite_items::{Boxed, Items};
 use std::alloc::{AllocError, Global};
 use std::test::Fail;
-use ty_prog::{Case, Cell, Class, Expr, Kind, Method, Name, Node, Pattern, Program, Ty};
+use ty_prog::{
+    Case, Cell, Class, Expr, Kind, Method, Name, NoMemory, Node, Pattern, Program, Ty, copy,
+};
 
 // No node throws.
 #[derive(Clone, Copy)]
@@ -18,17 +23,19 @@ impl Rule for NoThrow {
     }
 }
 
-// Where a program throws.
-#[derive(Clone, Copy, PartialEq, Eq)]
-enum At {
-    Nowhere,
-    Root,
-    Guard,
-    Cell,
-    SuperArgument,
-    Statement,
+// Each node counts the same.
+#[derive(Clone, Copy)]
+struct Each(u32);
+
+impl Measure for Each {
+    ghost of = { λ each shape. each.field-0 };
+
+    fn of(&self, _node: Node<'_>) -> u32 {
+        self.0
+    }
 }
 
+// `null`, thrown or not.
 fn part(alloc: Global, throws: bool) -> Result<Expr, AllocError> {
     if throws {
         Ok(Expr::Throw(Boxed::new(alloc, Expr::Null)?))
@@ -37,102 +44,68 @@ fn part(alloc: Global, throws: bool) -> Result<Expr, AllocError> {
     }
 }
 
-fn parts(alloc: Global, throws: bool) -> Result<Items<Expr>, AllocError> {
-    let mut list = Items::new(alloc);
-    list.push(Expr::Unit)?;
-    list.push(part(alloc, throws)?)?;
-    Ok(list)
-}
-
+// `this match { case _ if part => () }`.
 fn matching(alloc: Global, throws: bool) -> Result<Expr, AllocError> {
     let mut cases = Items::new(alloc);
-    cases.push(Case {
-        pattern: Pattern::Any,
-        guard: Some(part(alloc, throws)?),
-        body: Expr::Unit,
-    })?;
+    cases.push(Case::new(Pattern::Any, Some(part(alloc, throws)?), Expr::Unit))?;
     Ok(Expr::Match {
         of: Boxed::new(alloc, Expr::This)?,
         cases,
     })
 }
 
-fn method(alloc: Global, body: Option<Expr>) -> Result<Method, AllocError> {
-    Ok(Method {
-        name: Name::from_text(alloc, "m")?,
-        params: Items::new(alloc),
-        result: Ty::Any,
-        body,
-        is_static: false,
-        locals: 0,
-    })
-}
-
-fn methods(alloc: Global, at: At) -> Result<Items<Method>, AllocError> {
-    let mut list = Items::new(alloc);
-    list.push(method(alloc, None)?)?;
-    list.push(method(alloc, Some(part(alloc, at == At::Root)?))?)?;
-    list.push(method(alloc, Some(matching(alloc, at == At::Guard)?))?)?;
-    Ok(list)
-}
-
-fn cells(alloc: Global, at: At) -> Result<Items<Cell>, AllocError> {
-    let mut list = Items::new(alloc);
-    list.push(Cell {
-        name: Name::from_text(alloc, "c")?,
-        ty: Ty::Any,
-        init: part(alloc, at == At::Cell)?,
-        locals: 0,
-    })?;
-    Ok(list)
-}
-
-fn class(alloc: Global, at: At) -> Result<Class, AllocError> {
-    Ok(Class {
-        name: Name::from_text(alloc, "X")?,
-        kind: Kind::Class,
-        parents: Items::new(alloc),
-        linear: Items::new(alloc),
-        params: Items::new(alloc),
-        fields: Items::new(alloc),
-        cells: cells(alloc, at)?,
-        methods: methods(alloc, at)?,
-        super_args: parts(alloc, at == At::SuperArgument)?,
-        body: parts(alloc, at == At::Statement)?,
-        locals: 0,
-    })
-}
-
-fn program(alloc: Global, at: At) -> Result<Program, AllocError> {
+// A program of one class, with a deferred method; the part `at` of it throws: a method's body, a guard, a cell, an
+// argument of the superclass constructor, a statement; or none.
+fn program(alloc: Global, at: u32) -> Result<Program, AllocError> {
+    let mut class = Class::new(alloc, Name::from_text(alloc, "X")?, Kind::Class);
+    for body in [
+        None,
+        Some(part(alloc, at == 0)?),
+        Some(matching(alloc, at == 1)?),
+    ] {
+        class.methods.push(Method::new(alloc, Name::from_text(alloc, "m")?, Ty::Any, body))?;
+    }
+    class.cells.push(Cell::new(
+        Name::from_text(alloc, "c")?,
+        Ty::Any,
+        part(alloc, at == 2)?,
+        0,
+    ))?;
+    class.super_args.push(part(alloc, at == 3)?)?;
+    class.body.push(Expr::Unit)?;
+    class.body.push(part(alloc, at == 4)?)?;
     let mut classes = Items::new(alloc);
-    classes.push(class(alloc, At::Nowhere)?)?;
-    classes.push(class(alloc, at)?)?;
+    classes.push(class)?;
     Ok(Program { classes, main: 0 })
 }
 
-// Whether the three calls answer as they should where something throws there.
-fn is_told(alloc: Global, at: At) -> Result<bool, AllocError> {
-    let one = class(alloc, at)?;
+// Whether all calls answer as they should where that part throws.
+fn is_told(alloc: Global, at: u32) -> Result<bool, NoMemory> {
     let p = program(alloc, at)?;
-    let in_constructor = at == At::SuperArgument || at == At::Statement;
+    let calm = program(alloc, 5)?;
+    let other = copy(alloc, &p)?;
+    let (Some(class), Some(calm_class)) = (p.classes.get(0), calm.classes.get(0)) else {
+        return Ok(false);
+    };
+    let root = Node::Constructor(class);
+    let count = if at == 3 || at == 4 { 6 } else { 5 };
     Ok(
-        holds_everywhere(&NoThrow, Node::Constructor(&one)) == Ok(!in_constructor)
-            && holds_in_class(&NoThrow, &one) == Ok(at == At::Nowhere)
-            && holds_in_program(&NoThrow, &p) == Ok(at == At::Nowhere),
+        holds_everywhere(&NoThrow, root) == (count == 5)
+            && holds_in_class(&NoThrow, class) == (at == 5)
+            && holds_in_program(&NoThrow, &p) == (at == 5)
+            && nodes(root) == count
+            && total(&Each(3), root) == count * 3
+            && total(&Each(u32::MAX), root) == u32::MAX
+            && same_program(&p, &other)
+            && same_class(class, calm_class) == (at == 5)
+            && same_tree(root, Node::Constructor(calm_class)) == (at == 5),
     )
 }
 
 #[test]
 fn each_part_is_visited(rt: HostRuntime) -> Result<(), Fail> {
-    for at in [
-        At::Nowhere,
-        At::Root,
-        At::Guard,
-        At::Cell,
-        At::SuperArgument,
-        At::Statement,
-    ] {
-        assert_eq!(rt; is_told(rt.alloc(), at)?, true);
+    for at in 0..6 {
+        assert!(rt; is_told(rt.alloc(), at)?);
     }
     Ok(())
 }

@@ -1,230 +1,125 @@
-use super::fakes::{Stream, one_file, sink, words_of};
-use sl_io::MemSink;
+use super::fakes::{Stream, one_file, sink};
+use sl_base::Name;
 use sl_top::{Finished, top};
 use std::alloc::{AllocError, Global};
 use std::test::Fail;
 
-// Bodies of `main`, the text that each prints, and the steps of its run.
-const PRINTED: [(&str, &str, u32); 12] = [
-    ("", "", 1),
-    ("println(0)\n", "0\n", 3),
-    ("println(2147483647 + 1)\n", "-2147483648\n", 5),
-    ("println(2 + 3 * 4 - 5)\n", "9\n", 7 + 2),
-    ("println(1)\nprintln(2)\n", "1\n2\n", 5),
-    ("  println(10 - 4 - 3)\n", "3\n", 7),
-    ("println(0 - 2147483647 - 1)\n", "-2147483648\n", 7),
-    ("println(0 - 2147483647 - 2)\n", "2147483647\n", 7),
-    ("println(65536 * 65536 + 7)\n", "7\n", 7),
-    ("println(46341 * 46341)\n", "-2147479015\n", 5),
-    ("println(2 * 3 + 4 * 5 - 6 * 7)\n", "-16\n", 13),
-    ("println(2 - 3 * 4 * 5 + 6)\n", "-52\n", 11),
-];
+// Calls over a shelf that has `m.scala` alone. A row has the words and the body of `main`; the call of the shelf that fails
+// and the one that finds no memory, where they aren't 0; the most bytes that `out` takes at a call, and the same two calls;
+// these of `err`; then the status, what stands on `out` and on `err`, and the steps of the schedule. `$` stands for LF.
+// First listings, then files of other forms, and then streams and shelves that refuse.
+const CALLS: &str = "run m.scala||0 0|99 0 0|99 0 0|0|||1
+run m.scala|println(0)$|0 0|99 0 0|99 0 0|0|0$||3
+run m.scala|println(2147483647 + 1)$|0 0|99 0 0|99 0 0|0|-2147483648$||5
+run m.scala|println(2 + 3 * 4 - 5)$|0 0|99 0 0|99 0 0|0|9$||9
+run m.scala|  println(10 - 4 - 3)$|0 0|99 0 0|99 0 0|0|3$||7
+run m.scala|println(0 - 2147483647 - 1)$|0 0|99 0 0|99 0 0|0|-2147483648$||7
+run m.scala|println(0 - 2147483647 - 2)$|0 0|99 0 0|99 0 0|0|2147483647$||7
+run m.scala|println(65536 * 65536 + 7)$|0 0|99 0 0|99 0 0|0|7$||7
+run m.scala|println(46341 * 46341)$|0 0|99 0 0|99 0 0|0|-2147479015$||5
+run m.scala|println(2 * 3 + 4 * 5 - 6 * 7)$|0 0|99 0 0|99 0 0|0|-16$||13
+run m.scala|println(2 - 3 * 4 * 5 + 6)$|0 0|99 0 0|99 0 0|0|-52$||11
+run m.scala|println(2147483648)$|0 0|99 0 0|99 0 0|4||m.scala: not built$|0
+run m.scala|println(99999999999999999999)$|0 0|99 0 0|99 0 0|4||m.scala: not built$|0
+run m.scala|println(01)$|0 0|99 0 0|99 0 0|4||m.scala: not built$|0
+run m.scala|println(-1)$|0 0|99 0 0|99 0 0|4||m.scala: not built$|0
+run m.scala|println(1)|0 0|99 0 0|99 0 0|4||m.scala: not built$|0
+run m.scala|println(1) $|0 0|99 0 0|99 0 0|4||m.scala: not built$|0
+run m.scala|println(1);$|0 0|99 0 0|99 0 0|4||m.scala: not built$|0
+run m.scala|println(1)\r$|0 0|99 0 0|99 0 0|4||m.scala: not built$|0
+run m.scala|\tprintln(1)$|0 0|99 0 0|99 0 0|4||m.scala: not built$|0
+run m.scala|$|0 0|99 0 0|99 0 0|4||m.scala: not built$|0
+run m.scala|println()$|0 0|99 0 0|99 0 0|4||m.scala: not built$|0
+run m.scala|println(1+2)$|0 0|99 0 0|99 0 0|4||m.scala: not built$|0
+run m.scala|println(1 +  2)$|0 0|99 0 0|99 0 0|4||m.scala: not built$|0
+run m.scala|println(1 + )$|0 0|99 0 0|99 0 0|4||m.scala: not built$|0
+run m.scala|println(1 / 2)$|0 0|99 0 0|99 0 0|4||m.scala: not built$|0
+run m.scala|println((1))$|0 0|99 0 0|99 0 0|4||m.scala: not built$|0
+run m.scala|}$}$|0 0|99 0 0|99 0 0|4||m.scala: not built$|0
+run m.scala|println(1)$println(2)$|0 0|9 0 0|99 0 0|0|1$2$||5
+run m.scala|println(1)$println(2)$|0 0|1 0 0|99 0 0|0|1$2$||5
+run m.scala|println(1)$println(2)$|0 0|9 1 0|99 0 0|5|||5
+run m.scala|println(1)$println(2)$|0 0|9 2 0|99 0 0|5|1$||5
+run m.scala|println(1)$println(2)$|0 0|1 2 0|99 0 0|5|1||5
+run m.scala|println(1)$println(2)$|1 0|9 0 0|99 0 0|5||fault: m.scala$|0
+run m.scala|println(1)$println(2)$|1 0|9 0 0|1 9 0|5||fault: m|0
+run n.scala|println(1)$println(2)$|0 0|9 0 0|4 3 0|5||missing:|0
+run|println(1)$println(2)$|0 0|9 0 0|99 1 0|5|||0
+run m.scala|println(1)$println(2)$|0 1|9 0 0|99 0 0|7||memory$|0
+run m.scala|println(1)$println(2)$|0 1|9 0 0|1 0 0|7||memory$|0
+run m.scala|println(1)$println(2)$|0 0|9 0 1|99 0 0|7||memory$|0
+run m.scala|println(1)$println(2)$|0 0|9 0 2|1 0 0|7|1$|memory$|0
+run m.scala|println(1)$println(2)$|0 0|1 0 2|99 0 0|7|1|memory$|0
+run m.scala|println(1)$println(2)$|0 0|1 0 4|99 0 0|7|1$2|memory$|0
+|println(1)$println(2)$|0 0|9 0 0|99 0 1|7|||0
+|println(1)$println(2)$|0 0|9 0 0|1 0 4|7||usa|0
+run n.scala|println(1)$println(2)$|0 0|9 0 0|99 0 2|7||missing: |0
+run m.scala|println(1)$println(2)$|0 0|9 0 2|1 0 4|7|1$|mem|0
+run m.scala|println(1)$println(2)$|0 1|9 0 0|99 1 0|5|||0
+run m.scala|println(1)$println(2)$|0 0|9 0 1|99 1 0|5|||5
+run m.scala|println(1)$println(2)$|0 0|9 0 2|1 4 0|5|1$|mem|5
+run nothing.scala|println(1)$println(2)$|0 0|9 0 0|1 0 0|8||missing: nothing.scala$|0
+run größe|println(1)$println(2)$|0 0|9 0 0|99 0 0|8||missing: größe$|0
+run |println(1)$println(2)$|0 0|9 0 0|99 0 0|8||missing: $|0
+run|println(1)$println(2)$|0 0|9 0 0|1 0 0|6||usage: scalazy COMMAND FILE [OPTIONS]$|0
+|println(1)$println(2)$|0 0|9 0 0|99 0 0|6||usage: scalazy COMMAND FILE [OPTIONS]$|0";
 
-// Bodies that make a file of another form than the one that runs today.
-const NOT_BUILT: [&str; 17] = [
-    "println(2147483648)\n",
-    "println(99999999999999999999)\n",
-    "println(01)\n",
-    "println(-1)\n",
-    "println(1)",
-    "println(1) \n",
-    "println(1);\n",
-    "println(1)\r\n",
-    "\tprintln(1)\n",
-    "\n",
-    "println()\n",
-    "println(1+2)\n",
-    "println(1 +  2)\n",
-    "println(1 + )\n",
-    "println(1 / 2)\n",
-    "println((1))\n",
-    "}\n}\n",
-];
-
-const RUN: &[&str] = &["run", "m.scala"];
-
-const WHOLE: Stream = Stream {
-    most: 4096,
-    fails: 0,
-};
-
-const BYTEWISE: Stream = Stream { most: 1, fails: 0 };
-
-const USAGE: &str = "usage: scalazy COMMAND FILE [OPTIONS]\n";
-
-// One call over a shelf that has `m.scala` alone, whose body prints 1 and 2.
-#[derive(Drop)]
-struct Call {
-    words: &'static [&'static str],
-    // the call of the shelf that fails, if it isn't 0
-    fails: u32,
-    out: Stream,
-    err: Stream,
-    status: u8,
-    text: &'static str,
-    line: &'static str,
-    steps: u32,
+// The bytes of a text in which `$` stands for LF.
+fn bytes_of(alloc: Global, text: &str) -> Result<Vec<u8>, AllocError> {
+    let mut bytes = Vec::from_slice(alloc, text.as_bytes())?;
+    for byte in bytes.iter_mut() {
+        if *byte == b'$' {
+            *byte = b'\n';
+        }
+    }
+    Ok(bytes)
 }
 
-const CALLS: [Call; 13] = [
-    Call {
-        words: RUN,
-        fails: 0,
-        out: WHOLE,
-        err: WHOLE,
-        status: 0,
-        text: "1\n2\n",
-        line: "",
-        steps: 5,
-    },
-    Call {
-        words: RUN,
-        fails: 0,
-        out: BYTEWISE,
-        err: WHOLE,
-        status: 0,
-        text: "1\n2\n",
-        line: "",
-        steps: 5,
-    },
-    Call {
-        words: RUN,
-        fails: 0,
-        out: Stream {
-            most: 4096,
-            fails: 2,
-        },
-        err: WHOLE,
-        status: 5,
-        text: "1\n",
-        line: "",
-        steps: 5,
-    },
-    Call {
-        words: RUN,
-        fails: 0,
-        out: Stream { most: 1, fails: 2 },
-        err: WHOLE,
-        status: 5,
-        text: "1",
-        line: "",
-        steps: 5,
-    },
-    Call {
-        words: RUN,
-        fails: 0,
-        out: Stream {
-            most: 4096,
-            fails: 1,
-        },
-        err: WHOLE,
-        status: 5,
-        text: "",
-        line: "",
-        steps: 5,
-    },
-    Call {
-        words: RUN,
-        fails: 1,
-        out: WHOLE,
-        err: WHOLE,
-        status: 5,
-        text: "",
-        line: "fault: m.scala\n",
-        steps: 0,
-    },
-    Call {
-        words: &["run", "nothing.scala"],
-        fails: 0,
-        out: WHOLE,
-        err: BYTEWISE,
-        status: 8,
-        text: "",
-        line: "missing: nothing.scala\n",
-        steps: 0,
-    },
-    Call {
-        words: &["run", "größe"],
-        fails: 0,
-        out: WHOLE,
-        err: WHOLE,
-        status: 8,
-        text: "",
-        line: "missing: größe\n",
-        steps: 0,
-    },
-    Call {
-        words: &["run", ""],
-        fails: 0,
-        out: WHOLE,
-        err: WHOLE,
-        status: 8,
-        text: "",
-        line: "missing: \n",
-        steps: 0,
-    },
-    Call {
-        words: &["run", "n.scala"],
-        fails: 0,
-        out: WHOLE,
-        err: Stream { most: 4, fails: 3 },
-        status: 5,
-        text: "",
-        line: "missing:",
-        steps: 0,
-    },
-    Call {
-        words: &["run"],
-        fails: 0,
-        out: WHOLE,
-        err: BYTEWISE,
-        status: 6,
-        text: "",
-        line: USAGE,
-        steps: 0,
-    },
-    Call {
-        words: &[],
-        fails: 0,
-        out: WHOLE,
-        err: WHOLE,
-        status: 6,
-        text: "",
-        line: USAGE,
-        steps: 0,
-    },
-    Call {
-        words: &["run"],
-        fails: 0,
-        out: WHOLE,
-        err: Stream {
-            most: 4096,
-            fails: 1,
-        },
-        status: 5,
-        text: "",
-        line: "",
-        steps: 0,
-    },
-];
+// The words between spaces; none where there is no text.
+fn words_in(alloc: Global, text: &str) -> Result<Vec<Name>, AllocError> {
+    let mut words = Vec::new(alloc);
+    if !text.is_empty() {
+        for word in text.split(' ') {
+            words.push(Name::from_text(alloc, word)?)?;
+        }
+    }
+    Ok(words)
+}
 
-// Whether a call answers so.
-fn is_answered(call: &Call, body: &str, alloc: Global) -> Result<bool, AllocError> {
-    let words = words_of(alloc, call.words)?;
-    let mut shelf = one_file(alloc, body, call.fails)?;
-    let mut out = sink(alloc, &call.out)?;
-    let mut err = sink(alloc, &call.err)?;
+// The number at this index among those between spaces, or 0.
+fn number(text: &str, index: usize) -> u32 {
+    for (i, word) in text.split(' ').enumerate() {
+        if i == index {
+            return word.parse::<u32>().unwrap_or(0);
+        }
+    }
+    0
+}
+
+fn stream(text: &str) -> Stream {
+    [number(text, 0), number(text, 1), number(text, 2)]
+}
+
+// Whether a call is answered as its row says.
+fn is_answered(row: &str, alloc: Global) -> Result<bool, AllocError> {
+    let cells: Vec<&str> = row.split('|').collect(alloc)?;
+    let [words, body, at, out, err, status, text, line, steps] = cells.as_slice() else {
+        return Ok(false);
+    };
+    let words = words_in(alloc, words)?;
+    let body = bytes_of(alloc, body)?;
+    let mut shelf = one_file(alloc, &body, [number(at, 0), number(at, 1)])?;
+    let mut out = sink(alloc, stream(out))?;
+    let mut err = sink(alloc, stream(err))?;
     let finished = top(alloc, words.as_slice(), &mut shelf, &mut out, &mut err);
+    let text = bytes_of(alloc, text)?;
+    let line = bytes_of(alloc, line)?;
     Ok(
-        finished.status == call.status
-            && has_steps(&finished, call.steps)
-            && holds(&out, call.text)
-            && holds(&err, call.line),
+        u32::from(finished.status) == number(status, 0)
+            && has_steps(&finished, number(steps, 0))
+            && out.inner.bytes() == text.as_slice()
+            && err.inner.bytes() == line.as_slice(),
     )
-}
-
-fn holds(sink: &MemSink, text: &str) -> bool {
-    sink.bytes() == text.as_bytes()
 }
 
 // Whether the schedule is one turn of thread 1 with these steps, or empty where they are 0.
@@ -239,48 +134,9 @@ fn has_steps(finished: &Finished, steps: u32) -> bool {
 }
 
 #[test]
-fn listings_print_their_values(rt: HostRuntime) -> Result<(), Fail> {
-    for (body, text, steps) in PRINTED {
-        let call = Call {
-            words: RUN,
-            fails: 0,
-            out: WHOLE,
-            err: WHOLE,
-            status: 0,
-            text,
-            line: "",
-            steps,
-        };
-        assert!(rt; is_answered(&call, body, rt.alloc())?, "{body}");
-    }
-    Ok(())
-}
-
-#[test]
-fn other_files_are_not_built(rt: HostRuntime) -> Result<(), Fail> {
-    for body in NOT_BUILT {
-        let call = Call {
-            words: RUN,
-            fails: 0,
-            out: WHOLE,
-            err: WHOLE,
-            status: 4,
-            text: "",
-            line: "m.scala: not built\n",
-            steps: 0,
-        };
-        assert!(rt; is_answered(&call, body, rt.alloc())?, "{body}");
-    }
-    Ok(())
-}
-
-#[test]
 fn calls_are_answered(rt: HostRuntime) -> Result<(), Fail> {
-    for (i, call) in CALLS.iter().enumerate() {
-        assert!(rt;
-            is_answered(call, "println(1)\nprintln(2)\n", rt.alloc())?,
-            "{i}"
-        );
+    for row in CALLS.lines() {
+        assert!(rt; is_answered(row, rt.alloc())?, "{row}");
     }
     Ok(())
 }

@@ -1,19 +1,42 @@
+use sl_base::Name;
 use sl_io::{Fetch, MemShelf, MemSink, Put, Shelf, Sink, SinkFault};
-use sl_name::Name;
 use std::alloc::{AllocError, Global};
 
-/// How many bytes a sink takes at a call, from 1, and the call that fails, if it isn't 0.
-#[derive(Clone, Copy)]
-pub struct Stream {
-    pub most: u32,
-    pub fails: u32,
+/// The most bytes that a sink takes at a call, from 1; the call that fails and the call from which on no memory is found,
+/// where they aren't 0.
+pub type Stream = [u32; 3];
+
+/// A sink in memory that finds no memory from a call on, if its number isn't 0.
+#[derive(Drop)]
+pub struct WantingSink {
+    pub inner: MemSink,
+    wants: u32,
 }
 
-pub fn sink(alloc: Global, stream: &Stream) -> Result<MemSink, AllocError> {
-    let failing = Vec::from_slice(alloc, &[stream.fails])?;
-    Ok(MemSink::new(alloc, stream.most.max(1), failing))
+impl Sink for WantingSink {
+    ghost use Rattle.std.specs.Prelude.{Some};
+
+    ghost contents = { λ s. Some s.inner.bytes };
+
+    ghost faults = { λ s. s.inner.plan.faults };
+
+    fn write(&mut self, piece: &[u8]) -> Result<usize, SinkFault> {
+        if self.wants > 0 && self.inner.calls() >= self.wants - 1 {
+            return Err(SinkFault::Memory);
+        }
+        self.inner.write(piece)
+    }
 }
 
+/// A sink that takes bytes so.
+pub fn sink(alloc: Global, stream: Stream) -> Result<WantingSink, AllocError> {
+    let [most, fails, wants] = stream;
+    let failing = Vec::from_slice(alloc, &[fails])?;
+    let inner = MemSink::new(alloc, most.max(1), failing);
+    Ok(WantingSink { inner, wants })
+}
+
+/// The words, as names.
 pub fn words_of(alloc: Global, words: &[&str]) -> Result<Vec<Name>, AllocError> {
     let mut names = Vec::new(alloc);
     for word in words {
@@ -23,18 +46,24 @@ pub fn words_of(alloc: Global, words: &[&str]) -> Result<Vec<Name>, AllocError> 
 }
 
 /// The file `m.scala` whose `main` has this body.
-pub fn file_of(alloc: Global, body: &str) -> Result<Vec<u8>, AllocError> {
+pub fn file_of(alloc: Global, body: &[u8]) -> Result<Vec<u8>, AllocError> {
     let mut file = Vec::from_slice(alloc, b"object Main {\ndef main(): Unit = {\n")?;
-    file.extend_from_slice(body.as_bytes())?;
+    file.extend_from_slice(body)?;
     file.extend_from_slice(b"}\n}\n")?;
     Ok(file)
 }
 
-/// A shelf that has `m.scala` alone, with this body; its call of this number fails.
-pub fn one_file(alloc: Global, body: &str, fails: u32) -> Result<MemShelf, AllocError> {
+/// A shelf that has `m.scala` alone, with this body; the call that fails and the one from which on no memory is found,
+/// where they aren't 0.
+pub fn one_file(alloc: Global, body: &[u8], at: [u32; 2]) -> Result<Silent, AllocError> {
     let mut files = Vec::new(alloc);
     files.push((Name::from_text(alloc, "m.scala")?, file_of(alloc, body)?))?;
-    Ok(MemShelf::new(files, Vec::from_slice(alloc, &[fails])?))
+    let [fails, wants] = at;
+    Ok(Silent {
+        inner: MemShelf::new(files, Vec::from_slice(alloc, &[fails])?),
+        wants,
+        faults: 0,
+    })
 }
 
 /// A sink that takes nothing, and counts a fault at each call.
@@ -56,11 +85,12 @@ impl Sink for Stuck {
     }
 }
 
-/// A shelf that has what another has, and tells nothing of it.
+/// A shelf that has what another has, tells nothing of it, and finds no memory from a call on, if its number isn't 0.
 #[derive(Drop)]
 pub struct Silent {
-    pub inner: MemShelf,
-    pub faults: u64,
+    inner: MemShelf,
+    wants: u32,
+    faults: u64,
 }
 
 impl Shelf for Silent {
@@ -73,6 +103,9 @@ impl Shelf for Silent {
     ghost faults = { λ s _. s.faults };
 
     fn fetch(&mut self, alloc: Global, name: &str, most: u32) -> Fetch {
+        if self.wants > 0 && self.inner.calls() >= self.wants - 1 {
+            return Fetch::Memory;
+        }
         let fetched = self.inner.fetch(alloc, name, most);
         if matches!(fetched, Fetch::Failed) {
             self.faults = self.faults.saturating_add(1);

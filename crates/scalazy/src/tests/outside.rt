@@ -1,45 +1,28 @@
-use super::fakes::{Silent, Stream, Stuck, file_of, one_file, sink, words_of};
+use super::fakes::{Stream, Stuck, one_file, sink, words_of};
+use sl_base::Name;
 use sl_io::MemShelf;
-use sl_name::Name;
 use sl_top::{SOURCE_LIMIT, top};
 use std::alloc::{AllocError, Global};
 use std::test::Fail;
 
-const WHOLE: Stream = Stream {
-    most: 4096,
-    fails: 0,
-};
+const WHOLE: Stream = [4096, 0, 0];
 
 // The status of a run where `out` takes nothing, how often it was called, and how often `err` was.
 fn stuck_run(alloc: Global) -> Result<(u8, u64, u32), AllocError> {
     let words = words_of(alloc, &["run", "m.scala"])?;
-    let mut shelf = one_file(alloc, "println(1)\nprintln(2)\n", 0)?;
+    let mut shelf = one_file(alloc, b"println(1)\nprintln(2)\n", [0, 0])?;
     let mut out = Stuck { faults: 0 };
-    let mut err = sink(alloc, &WHOLE)?;
+    let mut err = sink(alloc, WHOLE)?;
     let finished = top(alloc, words.as_slice(), &mut shelf, &mut out, &mut err);
-    Ok((finished.status, out.faults, err.calls()))
+    Ok((finished.status, out.faults, err.inner.calls()))
 }
 
 // The status of a refusal where `err` takes nothing.
 fn stuck_refusal(alloc: Global) -> Result<u8, AllocError> {
-    let mut shelf = one_file(alloc, "", 0)?;
-    let mut out = sink(alloc, &WHOLE)?;
+    let mut shelf = one_file(alloc, b"", [0, 0])?;
+    let mut out = sink(alloc, WHOLE)?;
     let finished = top(alloc, &[], &mut shelf, &mut out, &mut Stuck { faults: 0 });
     Ok(finished.status)
-}
-
-// The status of a run over a shelf that tells no files, whose call of this number fails, and what
-// `out` and `err` hold in the end.
-fn silent_run(alloc: Global, name: &str, fails: u32) -> Result<(u8, Vec<u8>), AllocError> {
-    let words = words_of(alloc, &["run", name])?;
-    let inner = one_file(alloc, "println(7)\n", fails)?;
-    let mut shelf = Silent { inner, faults: 0 };
-    let mut out = sink(alloc, &WHOLE)?;
-    let mut err = sink(alloc, &WHOLE)?;
-    let finished = top(alloc, words.as_slice(), &mut shelf, &mut out, &mut err);
-    let mut written = Vec::from_slice(alloc, out.bytes())?;
-    written.extend_from_slice(err.bytes())?;
-    Ok((finished.status, written))
 }
 
 // The status of a run of a file of this length.
@@ -52,8 +35,8 @@ fn long_run(alloc: Global, length: usize) -> Result<u8, AllocError> {
     let mut files = Vec::new(alloc);
     files.push((Name::from_text(alloc, "m.scala")?, file))?;
     let mut shelf = MemShelf::new(files, Vec::new(alloc));
-    let mut out = sink(alloc, &WHOLE)?;
-    let mut err = sink(alloc, &WHOLE)?;
+    let mut out = sink(alloc, WHOLE)?;
+    let mut err = sink(alloc, WHOLE)?;
     Ok(top(alloc, words.as_slice(), &mut shelf, &mut out, &mut err).status)
 }
 
@@ -61,21 +44,6 @@ fn long_run(alloc: Global, length: usize) -> Result<u8, AllocError> {
 fn streams_may_take_nothing(rt: HostRuntime) -> Result<(), Fail> {
     assert_eq!(rt; stuck_run(rt.alloc())?, (5, 1, 0));
     assert_eq!(rt; stuck_refusal(rt.alloc())?, 5);
-    Ok(())
-}
-
-#[test]
-fn shelves_may_be_silent(rt: HostRuntime) -> Result<(), Fail> {
-    let cases = [
-        ("m.scala", 0, 0, "7\n"),
-        ("m.scala", 1, 5, "fault: m.scala\n"),
-        ("n.scala", 0, 8, "missing: n.scala\n"),
-    ];
-    for (name, fails, status, written) in cases {
-        let (found, bytes) = silent_run(rt.alloc(), name, fails)?;
-        assert_eq!(rt; found, status);
-        assert_eq!(rt; bytes.as_slice(), written.as_bytes());
-    }
     Ok(())
 }
 

@@ -24,6 +24,7 @@ fn operator(bytes: &[u8]) -> Option<(Operator, &[u8])>
     Some((Operator::Mul, rest))
 }
 
+// A term at the front, and the rest.
 fn term(bytes: &[u8]) -> Option<(Term, &[u8])>
     ensures { MatchOption result (NoneRead SpellsTerm bytes.now)
         (λ r. IsRead SpellsTerm bytes.now r.0 r.1.now) }

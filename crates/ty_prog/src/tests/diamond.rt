@@ -5,49 +5,37 @@ use sqlite_items::Items;
 use std::alloc::{AllocError, Global};
 use std::test::Fail;
 
-fn method(
-    alloc: Global,
-    name: &str,
-    body: Option<Expr>,
-    is_static: bool,
-) -> Result<Method, AllocError> {
-    Ok(Method {
-        name: Name::from_text(alloc, name)?,
-        params: Items::new(alloc),
-        result: Ty::Unit,
-        body,
-        is_static,
-        locals: 0,
-    })
+// A method `m`, `low` or `s` of a class.
+fn method(alloc: Global, name: &str, is_static: bool) -> Result<Method, AllocError> {
+    let mut made = Method::new(
+        alloc,
+        Name::from_text(alloc, name)?,
+        Ty::Unit,
+        Some(Expr::Unit),
+    );
+    made.is_static = is_static;
+    Ok(made)
 }
 
 fn class(alloc: Global, linear: &[u32], methods: Items<Method>) -> Result<Class, AllocError> {
-    Ok(Class {
-        name: Name::from_text(alloc, "X")?,
-        kind: Kind::Class,
-        parents: Items::new(alloc),
-        linear: Items::from_slice(alloc, linear)?,
-        params: Items::new(alloc),
-        fields: Items::new(alloc),
-        cells: Items::new(alloc),
-        methods,
-        super_args: Items::new(alloc),
-        body: Items::new(alloc),
-        locals: 0,
-    })
+    let mut made = Class::new(alloc, Name::from_text(alloc, "X")?, Kind::Class);
+    made.linear = Items::from_slice(alloc, linear)?;
+    made.methods = methods;
+    Ok(made)
 }
 
 // A has `m`, a `low` and a static `s`; B `m`; C a deferred `low` and then `m`; D nothing.
 fn diamond(alloc: Global) -> Result<Program, AllocError> {
     let mut a = Items::new(alloc);
-    a.push(method(alloc, "m", Some(Expr::Unit), false)?)?;
-    a.push(method(alloc, "low", Some(Expr::Unit), false)?)?;
-    a.push(method(alloc, "s", Some(Expr::Unit), true)?)?;
+    a.push(method(alloc, "m", false)?)?;
+    a.push(method(alloc, "low", false)?)?;
+    a.push(method(alloc, "s", true)?)?;
     let mut b = Items::new(alloc);
-    b.push(method(alloc, "m", Some(Expr::Unit), false)?)?;
+    b.push(method(alloc, "m", false)?)?;
     let mut c = Items::new(alloc);
-    c.push(method(alloc, "low", None, false)?)?;
-    c.push(method(alloc, "m", Some(Expr::Unit), false)?)?;
+    let low = Name::from_text(alloc, "low")?;
+    c.push(Method::new(alloc, low, Ty::Unit, None))?;
+    c.push(method(alloc, "m", false)?)?;
     let mut classes = Items::new(alloc);
     classes.push(class(alloc, &[0], a)?)?;
     classes.push(class(alloc, &[1, 0], b)?)?;

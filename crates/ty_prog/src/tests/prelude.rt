@@ -1,13 +1,18 @@
-use crate::prelude;
 use crate::prelude_number::{
     ARITHMETIC_EXCEPTION, LAZY_CYCLE, MATCH_ERROR, NO_CLASS_DEF_FOUND_ERROR, PRELUDE_LEN, THREAD,
     THROWABLE, VIRTUAL_MACHINE_ERROR,
 };
+use crate::{Program, copy, prelude};
 use std::test::Fail;
 
 #[test]
-fn names_and_numbers(rt: HostRuntime) -> Result<(), Fail> {
-    let classes = prelude(rt.alloc())?;
+fn names_and_numbers_of_a_copy(rt: HostRuntime) -> Result<(), Fail> {
+    let made = Program {
+        classes: prelude(rt.alloc())?,
+        main: LAZY_CYCLE,
+    };
+    let Program { classes, main } = copy(rt.alloc(), &made)?;
+    assert_eq!(rt; main, LAZY_CYCLE);
     assert_eq!(rt; classes.len(), PRELUDE_LEN as usize);
     for (number, name) in [
         (THREAD, "Thread"),

@@ -1,26 +1,42 @@
-use Rattle.std.proofs.Common.{◌≤◌, ◌<◌, ◌^◌, get_or, length, subst, sym, arith, rules, ℕ, List}
+use Rattle.std.proofs.Common.{◌≡◌, ◌≤◌, ◌<◌, ◌^◌, get_or, length, subst, sym, ap, ◌∙◌, arith, rules, ℕ, List}
 use Rattle.cf_form.specs.declared.instr.Instr.{Instr}
-use Rattle.cf_instr.specs.Raws.{IsRising, AreSettled}
-use Rattle.cf_instr.proofs.Sizes.{starts_rise, raws_few, starts_low}
-use Rattle.cf_instr.proofs.Excluding.{found}
+use Rattle.cf_instr.specs.Raws.{AreApart, AreSettled}
+use Rattle.cf_instr.proofs.Sizes.{starts_apart, starts_few, raws_few, starts_low}
+use Rattle.cf_instr.proofs.Excluding.{found, written_back}
 use Rattle.cf_instr.proofs.decoding.whole.Goals as goal
 
-abbrev IsLow : List ℕ → Type 0
-IsLow xs = (k : ℕ) → k < length xs → get_or xs k 0 < 2 ^ 31
+abbrev IsLow : ℕ → List ℕ → Type 0
+IsLow len xs = (k : ℕ) → k < length xs → get_or xs k 0 < len
 
-pub settled-requires-clause-rising : goal.settled-requires-clause-rising
-settled-requires-clause-rising c = subst IsRising (sym c.deref-in-Ok.ensures.value) (starts_rise c.in-Ok.raws.items c.in-Ok.starts.items c.in-Ok.ensures.begin)
+pub numbers_of-requires-clause-apart : goal.numbers_of-requires-clause-apart
+numbers_of-requires-clause-apart c = subst AreApart (sym c.deref.ensures.value) (starts_apart c.args.bytes.now c.in_ok-raws.raws.items c.in_ok-raws.starts.items c.in_ok-raws.ensures)
 
-pub settled-requires-clause-many : goal.settled-requires-clause-many
-settled-requires-clause-many c = omega (arith, raws_few c.args.bytes.now c.in-Ok.raws.items c.in-Ok.starts.items c.in-Ok.ensures)
+pub numbers_of-requires-clause-few : goal.numbers_of-requires-clause-few
+numbers_of-requires-clause-few c =
+    let few : length c.in_ok-raws.starts.items ≤ length c.args.bytes.now = starts_few c.args.bytes.now c.in_ok-raws.raws.items c.in_ok-raws.starts.items c.in_ok-raws.ensures in
+    subst (λ (l : List ℕ). length l < 2 ^ 31) (sym c.deref.ensures.value) (omega arith)
 
-pub settled-requires-clause-low : goal.settled-requires-clause-low
-settled-requires-clause-low c =
-    subst IsLow (sym c.deref-in-Ok.ensures.value) (λ k lt. let h = starts_low c.args.bytes.now c.in-Ok.raws.items c.in-Ok.starts.items k c.in-Ok.ensures lt in let few = c.requires in omega arith)
+pub numbers_of-requires-clause-within : goal.numbers_of-requires-clause-within
+numbers_of-requires-clause-within c =
+    subst (IsLow (length c.args.bytes.now)) (sym c.deref.ensures.value) (λ k lt. starts_low c.args.bytes.now c.in_ok-raws.raws.items c.in_ok-raws.starts.items k c.in_ok-raws.ensures lt)
 
-pub returns-in-Ok-settled-clause-found : goal.returns-in-Ok-settled-clause-found
-returns-in-Ok-settled-clause-found c =
+pub settle-requires-clause-many : goal.settle-requires-clause-many
+settle-requires-clause-many c =
+    let few : length c.in_ok-raws.raws.items ≤ length c.args.bytes.now = raws_few c.args.bytes.now c.in_ok-raws.raws.items c.in_ok-raws.starts.items c.in_ok-raws.ensures in
+    subst (λ (l : List Instr). length l < 2 ^ 31) (sym c.deref_mut.ensures.value) (omega arith)
+
+pub settle-requires-clause-low : goal.settle-requires-clause-low
+settle-requires-clause-low c =
+    let long : length c.deref-3.result.now ≡ length c.args.bytes.now = ap length c.deref-3.ensures.value ∙ c.in-Ok.ensures.many in
+    subst (λ n. IsLow n c.deref-2.result.now) (sym long)
+    (subst (IsLow (length c.args.bytes.now)) (sym c.deref-2.ensures.value) (λ k lt. starts_low c.args.bytes.now c.in_ok-raws.raws.items c.in_ok-raws.starts.items k c.in_ok-raws.ensures lt))
+
+pub returns-in-Ok-settle-clause-found : goal.returns-in-Ok-settle-clause-found
+returns-in-Ok-settle-clause-found c =
     let some : 1 ≤ length c.args.bytes.now = search rules in
-    let settled : AreSettled c.in-Ok.raws.items (length c.in-Ok.raws.items) c.in-Ok-settled.code.items =
-    subst (λ (t : List Instr). AreSettled t (length t) c.in-Ok-settled.code.items) c.deref.ensures.value c.in-Ok-settled.ensures in
-    rw c.from_vec.ensures (found c.args.bytes.now c.in-Ok.raws.items c.in-Ok.starts.items c.in-Ok-settled.code.items some c.in-Ok.ensures settled)
+    let old = c.in_ok-raws.raws.items in
+    let new = c.settle.new.raws in
+    let is : c.deref_mut.result.now ≡ old = c.deref_mut.ensures.value in
+    let long : length new ≡ length old = c.settle.auto.raws ∙ ap length is in
+    let settled : AreSettled old (length old) new = subst (λ (t : List Instr). AreSettled t (length t) new) is c.in-Ok-settle.ensures in
+    rw (written_back old new c.in_ok-raws.raws.len long (sym c.deref_mut.ensures.len ∙ ap length is)) (found c.args.bytes.now old c.in_ok-raws.starts.items new some c.in_ok-raws.ensures settled)

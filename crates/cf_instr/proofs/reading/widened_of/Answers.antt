@@ -1,5 +1,5 @@
 use Rattle.std.proofs.Common.{true, arith, refl}
-use Rattle.cf_form.specs.declared.operands.Shape.TheVariants.{Local, Step}
+use Rattle.cf_form.specs.declared.shape.Shape.TheVariants.{Local, Step}
 use Rattle.cf_instr.proofs.Beginning.{handed}
 use Rattle.cf_instr.proofs.reading.widened_of.Goals as goal
 

@@ -1,17 +1,14 @@
-use Rattle.std.proofs.Common.{◌≡◌, subst, arith, length, ℕ, is_ok}
-use Rattle.cf_instr.specs.Raws.{AreSettled}
-use Rattle.cf_instr.proofs.Offsets.{first_astray, settled_next, pushed}
+use Rattle.std.proofs.Common.{arith, rules}
+use Rattle.std.specs.Int.{w32}
+use mir.Val.{SFits}
+use Rattle.cf_instr.proofs.Targets.{settles_plain, settles_jump}
 use Rattle.cf_instr.proofs.settling.settled.Goals as goal
 
-pub returns-in_default-settled_one : goal.returns-in_default-settled_one
-returns-in_default-settled_one c = first_astray c.args.raws.now c.args.starts.now c.loop-n.n _ c.loop-n.code.items c.requires.starts c.loop-n-test.true c.in_default-settled_one.ensures c.loop-n.invariant
+pub returns-then-not-is_jump : goal.returns-then-not-is_jump
+returns-then-not-is_jump c = settles_plain c.args.starts.now c.args.at c.args.raw (cc)
 
-pub loop-n-preserved : goal.loop-n-preserved
-loop-n-preserved c =
-    settled_next c.args.raws.now c.args.starts.now c.loop-n.n _ c.in-Some.instr c.loop-n.code.items c.push.new.self.items c.requires.starts c.loop-n-test.true c.in-Some.ensures c.loop-n.invariant
-    (pushed (is_ok c.push.result) _ _ _ c.if-is_err.ensures.negation c.push.ensures.items)
-
-pub returns : goal.returns
-returns c =
-    let e : c.loop-n.n ≡ length c.args.raws.now = omega arith in
-    subst (λ (n : ℕ). AreSettled c.args.raws.now n c.loop-n.code.items) e c.loop-n.invariant
+pub returns-in-Some : goal.returns-in-Some
+returns-in-Some c =
+    let fa : SFits w32 c.args.raw.a = search rules in
+    let fb : SFits w32 c.args.raw.b = search rules in
+    settles_jump c.args.starts.now c.args.at c.args.raw c.in-Some.m (cc) fa fb (omega (arith, c.in-Some.ensures.0)) c.in-Some.ensures

@@ -1,14 +1,14 @@
 use Rattle.std.proofs.Common.{arith, sym}
-use Rattle.cf_instr.proofs.Sizes.{place-zero, next_place}
+use Rattle.cf_instr.proofs.Sizes.{offset-zero, next_offset}
 use Rattle.cf_instr.proofs.starts.code_len.Goals as goal
 
 pub loop-instr-init : goal.loop-instr-init
-loop-instr-init c = sym (place-zero c.args.instrs.now)
+loop-instr-init c = sym (offset-zero c.args.instrs.now)
 
 pub overflow_add-len : goal.overflow_add-len
 overflow_add-len c =
-    omega (arith, (next_place c.args.instrs.now c.loop-instr.instr-index _ c.loop-instr.len c.byte_count-len.result c.loop-instr-test.true c.loop-instr.invariant c.byte_count-len.ensures).1)
+    omega (arith, (next_offset c.args.instrs.now c.loop-instr.instr-index _ c.loop-instr.len c.byte_count-len.result c.loop-instr-test.true c.loop-instr.invariant c.byte_count-len.ensures).1)
 
 pub loop-instr-preserved : goal.loop-instr-preserved
 loop-instr-preserved c =
-    (next_place c.args.instrs.now c.loop-instr.instr-index _ c.loop-instr.len c.byte_count-len.result c.loop-instr-test.true c.loop-instr.invariant c.byte_count-len.ensures).0
+    (next_offset c.args.instrs.now c.loop-instr.instr-index _ c.loop-instr.len c.byte_count-len.result c.loop-instr-test.true c.loop-instr.invariant c.byte_count-len.ensures).0

@@ -13,7 +13,7 @@ overflow_add-count c =
     let bytes = c.as_bytes-byte-items.result.now in
     let all = utf8_share bytes c.as_bytes-byte-items.ensures.utf8 in
     let part = sum_by_more_le share bytes c.loop-byte.byte-index 0 c.loop-byte-test.true in
-    omega (arith, all.1, part, c.share_of-count.ensures, c.loop-byte.invariant)
+    omega (arith, all.1, part, c.share-count.ensures, c.loop-byte.invariant)
 
 pub returns : goal.returns
 returns c =

@@ -15,7 +15,7 @@ method_with_code-requires c =
 
 pub returns-in_err-info : goal.returns-in_err-info
 returns-in_err-info c =
-    let p = err_from_is_err_and c.from_residual.result c.from_residual.ensures.1 in
+    let p = err_from_is_err_and c.from_residual-in_err-info.result c.from_residual-in_err-info.ensures.1 in
     let e = c.in_err-info.field-0.0 in
     let failed = subst (λ (m : MethodParts). IsMethodStop c.args.pool.now (method_of m) e) c.method-item.is c.in_err-info.ensures in
     rw (p.1, p.2) (methods_stop c.args.pool.now c.args.methods.now c.loop-method.infos.items c.loop-method.method-index c.method-item.result e c.loop-method-test.true c.loop-method.invariant failed)

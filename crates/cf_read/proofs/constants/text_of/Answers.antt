@@ -9,5 +9,5 @@ returns-in-Ok-clause-found c =
 
 pub returns-in-Err-BadUtf-clause-found : goal.returns-in-Err-BadUtf-clause-found
 returns-in-Err-BadUtf-clause-found c =
-    let place = c.in-Err-BadUtf._at in
-    decoded_none c.args.bytes.now place ((c.in-Err-BadUtf.ensures.bad_utf place).0 (cc))
+    let at = c.in-Err-BadUtf._at in
+    decoded_none c.args.bytes.now at ((c.in-Err-BadUtf.ensures.bad_utf at).0 (cc))

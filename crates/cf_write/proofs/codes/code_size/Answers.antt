@@ -1,5 +1,5 @@
 use Rattle.std.proofs.Common.{◌∙◌, ap, get_or}
-use Rattle.cf_write.proofs.Places.{end_is}
+use Rattle.cf_write.proofs.Offsets.{end_is}
 use Rattle.cf_write.proofs.codes.code_size.Goals as goal
 
 pub returns : goal.returns

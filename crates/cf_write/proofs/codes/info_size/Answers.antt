@@ -1,5 +1,5 @@
 use Rattle.std.proofs.Common.{arith}
-use Rattle.cf_write.proofs.Places.{info_length, code-length}
+use Rattle.cf_write.proofs.Offsets.{info_length, code-length}
 use Rattle.cf_write.proofs.codes.info_size.Goals as goal
 
 pub overflow_add-result : goal.overflow_add-result

@@ -10,6 +10,6 @@ returns c =
     let code = c.in_ok-code.ensures in
     let methods = c.from_vec-2.ensures ∙ c.in_ok-methods.ensures.items
     ∙ (λ i. record { access = 0x0401; name = 10; descriptor = 11; code = None } ∷ record { access = 1; name = 12; descriptor = 11; code = Some (code i) } ∷ []) in
-    let file : record { minor = 0; major = 49; pool = c.in_ok-pool.pool; access = 33; this = 1; parent = 3; interfaces = c.in_ok-interfaces.interfaces; fields = c.from_vec.result; methods = c.from_vec-2.result } ≡ full =
-    λ i. record { minor = 0; major = 49; pool = c.in_ok-pool.ensures i; access = 33; this = 1; parent = 3; interfaces = c.in_ok-interfaces.ensures i; fields = fields i; methods = methods i } in
+    let file : record { minor = 3; major = 52; pool = c.in_ok-pool.pool; access = 33; this = 1; parent = 3; interfaces = c.in_ok-interfaces.interfaces; fields = c.from_vec.result; methods = c.from_vec-2.result } ≡ full =
+    λ i. record { minor = 3; major = 52; pool = c.in_ok-pool.ensures i; access = 33; this = 1; parent = 3; interfaces = c.in_ok-interfaces.ensures i; fields = fields i; methods = methods i } in
     subst (λ (f : ClassFile). (bytes : List ℕ) × Spelled f bytes) (sym file) full_spelled

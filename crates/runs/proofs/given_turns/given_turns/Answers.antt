@@ -1,43 +1,51 @@
-use Rattle.std.proofs.Common.{◌++◌, ◌∙◌}
-use Rattle.runs.proofs.Cutting.{joined, turn_more, turn_halted, turn_over, turn_missing}
-use Rattle.runs.proofs.Rounding.{turn_of}
+use Rattle.std.proofs.Common.{◌++◌, ◌<◌, ◌∙◌, arith, inl, inr, sym, true≢false}
+use Rattle.runs.specs.Planned.{kept}
+use Rattle.runs.proofs.Coursing.{given_absent, given_halts, given_more, given_over, given_used, joined}
 use Rattle.runs.proofs.given_turns.given_turns.Goals as goal
+use Rattle.runs.proofs.given_turns.given_turns.Goals.{then-turn-eq0-via-then-turn-eq0, then-turn-eq0-via-else-turn-eq0+then-turn-threads}
 
-pub returns-in-Halted-clause-made : goal.returns-in-Halted-clause-made
-returns-in-Halted-clause-made g c =
+pub returns-then-left-eq0-clause-made : goal.returns-then-left-eq0-clause-made
+returns-then-left-eq0-clause-made g c =
+    let was = c.loop-index.invariant in (was.1.0, was.1.1, given_over _ _ _ _ _ _ _ _ was.1.2 (inl c.if-left-eq0.true))
+
+pub returns-in-None-clause-made : goal.returns-in-None-clause-made
+returns-in-None-clause-made g c =
+    let was = c.loop-index.invariant in (was.1.0, was.1.1, given_over _ _ _ _ _ _ _ _ was.1.2 (inr (rw was.0 at c.in-None.ensures)))
+
+pub returns-then-turn-eq0-clause-made : goal.returns-then-turn-eq0-clause-made
+returns-then-turn-eq0-clause-made g c =
     let was = c.loop-index.invariant in
-    let ends = rw (c.in-Halted.is, was.0) at c.in_ok-made.ensures.ends in (
-      was.1.0 ++ ends.0,
-      joined _ c.loop-index.schedule _ was.1.0 ends.0 was.1.1 ends.1,
-      turn_halted _ _ _ _ _ _ _ _ _ c.loop-index-test.true was.1.2 _ _ _ ends.2,
+    let some : 0 < c.loop-index.left = omega (arith, c.if-left-eq0.false) in (
+      was.1.0,
+      was.1.1,
+      given_absent _ _ _ _ _ _ _ _ was.1.2 _ c.loop-index-test.true _ some (rw was.0 at c.in-Some.ensures) (elim c.then-turn-eq0.branch [
+        | then-turn-eq0-via-then-turn-eq0 w ↦ inl w.if-turn-eq0.true
+        | then-turn-eq0-via-else-turn-eq0+then-turn-threads w ↦ inr (rw (w.threads.ensures.count, was.0) at w.if-turn-threads.true)
+      ]),
     )
 
-pub returns-in-Over-clause-made : goal.returns-in-Over-clause-made
-returns-in-Over-clause-made g c =
+pub returns-then-taken-clause-made : goal.returns-then-taken-clause-made
+returns-then-taken-clause-made g c =
     let was = c.loop-index.invariant in
-    let ends = rw (c.in-Over.is, was.0) at c.in_ok-made.ensures.ends in (
-      was.1.0 ++ ends.0,
-      joined _ c.loop-index.schedule _ was.1.0 ends.0 was.1.1 ends.1,
-      turn_over _ _ _ _ _ _ _ _ (turn_of 0 0) c.loop-index-test.true was.1.2 _ _ ends.2,
-    )
-
-pub returns-in-Missing-clause-made : goal.returns-in-Missing-clause-made
-returns-in-Missing-clause-made g c =
-    let was = c.loop-index.invariant in
-    let ends = rw (c.in-Missing.is, was.0) at c.in_ok-made.ensures.ends in (
-      was.1.0 ++ ends.0,
-      joined _ c.loop-index.schedule _ was.1.0 ends.0 was.1.1 ends.1,
-      turn_missing _ _ _ _ _ _ _ _ _ c.loop-index-test.true was.1.2 _ _ ends.2,
+    let some : 0 < c.loop-index.left = omega (arith, c.if-left-eq0.false) in (
+      was.1.0 ++ kept _ c.in_ok-taken.taken.made,
+      joined _ c.loop-index.schedule _ was.1.0 _ was.1.1 c.in_ok-taken.ensures.schedule,
+      given_halts _ _ _ _ _ _ _ _ was.1.2 _ c.loop-index-test.true _ some (rw was.0 at c.in-Some.ensures) _ (rw was.0 at c.threads.ensures.count) c.if-turn-eq0.false (omega (arith, c.if-turn-threads.false)) _ _ (rw was.0 at c.in_ok-taken.ensures.cut) (rw was.0 at c.in_ok-taken.ensures.halted.0 c.if-taken.true),
     )
 
 pub loop-index-preserved : goal.loop-index-preserved
 loop-index-preserved g c =
     let was = c.loop-index.invariant in
-    let ends = rw (c.in-GoesOn.is, was.0) at c.in_ok-made.ensures.ends in (
-      c.in_ok-made.ensures.system ∙ was.0,
+    let some : 0 < c.loop-index.left = omega (arith, c.if-left-eq0.false) in
+    let halted = rw was.0 at c.in_ok-taken.ensures.halted in (
+      c.in_ok-taken.ensures.system ∙ was.0,
       (
-        was.1.0 ++ ends.0,
-        joined _ c.loop-index.schedule _ was.1.0 ends.0 was.1.1 ends.1,
-        turn_more _ _ _ _ _ _ _ _ _ c.loop-index-test.true was.1.2 _ _ _ ends.2,
+        was.1.0 ++ kept _ c.in_ok-taken.taken.made,
+        joined _ c.loop-index.schedule _ was.1.0 _ was.1.1 c.in_ok-taken.ensures.schedule,
+        given_more _ _ _ _ _ _ _ _ was.1.2 _ c.loop-index-test.true _ some (rw was.0 at c.in-Some.ensures) _ (rw was.0 at c.threads.ensures.count) c.if-turn-eq0.false (omega (arith, c.if-turn-threads.false)) _ _ (rw was.0 at c.in_ok-taken.ensures.cut) (λ h. absurd (true≢false (sym (halted.1 h) ∙ c.if-taken.false))),
       ),
     )
+
+pub returns-clause-made : goal.returns-clause-made
+returns-clause-made g c =
+    let was = c.loop-index.invariant in (was.1.0, was.1.1, given_used _ _ _ _ _ _ _ _ was.1.2 (omega (arith, c.loop-index-test.false)))

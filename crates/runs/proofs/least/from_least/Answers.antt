@@ -12,7 +12,7 @@ loop-step-preserved c =
       | then-thread-least w ↦ (omega arith, omega arith, inr w.least-is)
       | else-thread-least w ↦ (omega arith, omega arith, inl w.least-is)
     ] in
-    elim c.match-awaited.branch [
+    elim c.match-awaited_by.branch [
       | in-Some w ↦ rw w.thread-is (along_more _ _ _ c.requires _ _ _ _ _ c.loop-step-test.true c.loop-step.invariant (sym w.in-Some.ensures) least.0 least.1 least.2)
       | in_default w ↦ never_ends _ _ _ c.requires _ _ c.loop-step-test.true c.loop-step.invariant.come (sym w.in_default.ensures)
     ]

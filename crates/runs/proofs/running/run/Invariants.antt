@@ -4,5 +4,5 @@ use Rattle.runs.proofs.running.run.Given as goal
 
 abbrev pub invariant-loop-turn : goal.invariant-loop-turn
 invariant-loop-turn g l =
-    (g.M.Threaded.system l.machine ≡ g.M.Threaded.system l.fn.machine)
-    × (g.M.Threaded.state l.machine ≡ (reach (g.M.Threaded.system l.fn.machine) (take l.turn-index l.turns)).state)
+    (g.M.Standing.system l.machine ≡ g.M.Standing.system l.fn.machine)
+    × (g.M.Standing.state l.machine ≡ (reach (g.M.Standing.system l.fn.machine) (take l.turn-index l.turns)).state)

@@ -10,7 +10,7 @@ pub loop-at-preserved : goal.loop-at-preserved
 loop-at-preserved g c = record {
   within = omega (arith, c.in-Ok.ensures.bound);
   gained = gains_further _ _ _ _ _ _ _ c.in-Ok.ensures.bound c.loop-at.invariant.gained c.in-Ok.ensures.gains;
-  counts = omega (arith, c.in-Ok.ensures.counts, c.loop-at.invariant.counts);
+  quiet = c.in-Ok.ensures.quiet (omega arith) ∙ c.loop-at.invariant.quiet;
 }
 
 pub returns-in-Err-clause-front : goal.returns-in-Err-clause-front

@@ -1,13 +1,10 @@
 use Rattle.std.proofs.Common.{refl}
-use Rattle.std.proofs.lemmas.Result.{IfOk-weaker}
 use Rattle.ty_complete.proofs.Finds.{must_told}
 use Rattle.ty_complete.proofs.found.finds_where_it_must.Goals as goal
 
-pub returns-then-branch : goal.returns-then-branch
-returns-then-branch c = (λ h has. absurd (c.in_ok-lacks_objects.ensures.0 c.if-branch.true has), λ h. refl)
+pub returns-then-lacks_objects : goal.returns-then-lacks_objects
+returns-then-lacks_objects c = (λ h has. absurd (c.lacks_objects.ensures.0 c.if-lacks_objects.true has), λ h. refl)
 
 pub returns : goal.returns
 returns c =
-    IfOk-weaker c.finds_its.result _ _
-    (λ answer told. must_told c.args.p.now c.args.class c.in_ok-lacks_objects.field-0 answer c.if-branch.false c.in_ok-lacks_objects.ensures told)
-    c.finds_its.ensures
+    must_told c.args.p.now c.args.class c.lacks_objects.result c.finds_its.result c.if-lacks_objects.false c.lacks_objects.ensures c.finds_its.ensures

@@ -4,5 +4,5 @@ use Rattle.runs.proofs.threaded.Threaded.moves.Given as goal
 
 abbrev pub invariant-loop-made : goal.invariant-loop-made
 invariant-loop-made g l =
-    (g.Self.Threaded.system l.self ≡ g.Self.Threaded.system l.fn.self)
-    × Made (g.Self.Threaded.system l.fn.self) l.thread l.made (g.Self.Threaded.state l.fn.self) l.made (g.Self.Threaded.state l.self)
+    (g.Self.Standing.system l.self ≡ g.Self.Standing.system l.fn.self)
+    × Made (g.Self.Standing.system l.fn.self) l.thread l.made (g.Self.Standing.state l.fn.self) l.made (g.Self.Standing.state l.self)

@@ -1,5 +1,0 @@
-use Rattle.bench_classes.proofs.often.written.Goals as goal
-
-pub write-requires : goal.write-requires
-write-requires c =
-    c.rewriting.ensures c.args.file.now c.requires.0 c.requires.1 c.if-file-eq0.true c.if-file-eq49.true

@@ -1,6 +1,0 @@
-use Rattle.std.proofs.Common.{◌≡◌, ◌-◌}
-use Rattle.cf_read.specs.Reading.{passed_at}
-use Rattle.cf_read.proofs.attributes.pass.Given as goal
-
-abbrev pub invariant-loop : goal.invariant-loop
-invariant-loop l = passed_at (l.count - l.counter) l.rest ≡ passed_at l.count l.bytes

@@ -1,7 +1,0 @@
-use Rattle.std.proofs.Common.{◌∙◌}
-use Rattle.std.proofs.lemmas.Str.{IsUtf8-string_bytes}
-use Rattle.sl_name.proofs.Texts.{text_again}
-use Rattle.sl_name.proofs.name.Name.as_str.Goals as goal
-
-pub returns-clause-bytes : goal.returns-clause-bytes
-returns-clause-bytes c = c.as_str.ensures.value ∙ text_again _ _ (IsUtf8-string_bytes c.self.inside.text) c.self.view_is

@@ -1,0 +1,35 @@
+//! Questions.
+
+/// What is asked of a program.
+#[derive(Clone, Copy)]
+pub(crate) enum Question {
+    Conforms,
+    Inherits,
+    Join,
+    Find,
+    SuperFind,
+    Linear,
+    SetFirst,
+    At,
+}
+
+static QUESTIONS: [(&str, Question); 8] = [
+    ("conforms", Question::Conforms),
+    ("inherits", Question::Inherits),
+    ("join", Question::Join),
+    ("find", Question::Find),
+    ("super-find", Question::SuperFind),
+    ("linear", Question::Linear),
+    ("set-first", Question::SetFirst),
+    ("at", Question::At),
+];
+
+/// The question with this name.
+pub(crate) fn question_of(word: &str) -> Option<Question> {
+    for (name, question) in &QUESTIONS {
+        if *name == word {
+            return Some(*question);
+        }
+    }
+    None
+}

@@ -1,2 +1,0 @@
-mod expressions;
-mod prelude;
