@@ -133,7 +133,7 @@ good_pure ends n x = record {
 
 -- ---- one after the other
 
-head_same : (f a b : List Token) → head a ≡ head b → head (f ++ a) ≡ head (f ++ b)
+pub head_same : (f a b : List Token) → head a ≡ head b → head (f ++ a) ≡ head (f ++ b)
 head_same [] a b e = e
 head_same (t ∷ f) a b e = refl
 

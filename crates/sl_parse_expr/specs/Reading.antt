@@ -111,13 +111,23 @@ absorb s = Ok (nothing s.0, ([], s.1))
 abbrev pub look : {A : Type 0} → (Ahead → List Token → Reader A) → Reader A
 look f = λ s. f (ahead s.1) s.0 s
 
+-- the one or the other, by what is held and the token ahead
+abbrev pub choose_by : {A : Type 0} → (List Token → Ahead → Bool) → Reader A → Reader A → Reader A
+choose_by test q other = λ s. (if test s.0 (ahead s.1) then q else other) s
+
+abbrev pub by_ahead : (Ahead → Bool) → List Token → Ahead → Bool
+by_ahead test held o = test o
+
 -- the one where the test holds of the token ahead, else the other
 abbrev pub choose : {A : Type 0} → (Ahead → Bool) → Reader A → Reader A → Reader A
-choose test q other = λ s. (if test (ahead s.1) then q else other) s
+choose test q other = choose_by (by_ahead test) q other
+
+abbrev pub if_clean : (Ahead → Bool) → List Token → Ahead → Bool
+if_clean test held o = nothing held && test o
 
 -- an optional part, which stands where nothing is held and the test holds of the token ahead
 abbrev pub option : {A : Type 0} → (Ahead → Bool) → Reader A → A → Reader A
-option test q none = λ s. (if nothing s.0 && test (ahead s.1) then q else pure none) s
+option test q none = choose_by (if_clean test) q (pure none)
 
 -- ---- loops: the number bounds the turns, and a turn that takes no token is the last
 

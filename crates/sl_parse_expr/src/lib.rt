@@ -3,6 +3,7 @@
 
 mod ahead;
 mod cursor;
+mod spans;
 mod stopped;
 
 pub use ahead::Ahead;
