@@ -29,6 +29,8 @@ use Rattle.sl_parse_expr.specs.declared.ahead.Ahead.{Ahead}
 use Rattle.sl_parse_expr.specs.declared.ahead.Ahead.TheVariants as see
 use Rattle.sl_parse_expr.specs.declared.cursor.Waiting.{Waiting}
 use Rattle.sl_parse_expr.specs.declared.cursor.Waiting.TheVariants as waiting
+use Rattle.sl_parse_expr.specs.declared.chain.Chain.{Chain}
+use Rattle.sl_parse_expr.specs.declared.chain.Chain.TheVariants as chain
 use Rattle.sl_parse_expr.specs.Ahead.{same}
 use Rattle.sl_parse_expr.specs.Tokens.{ident_of, operator_of, sign_of, literal_of, binding_of, separator_of, separates}
 use Rattle.sl_parse_expr.specs.Reading.{Reader, ◌>>=◌, ◌>>◌, pure, stuck, one, expect, hold, absorb, look, choose_by, by_ahead, choose, option, fold, clean, waits, nothing, ahead}
@@ -111,27 +113,21 @@ at_operator _ o = is_operator o
 abbrev pub at_case : {A : Type 0} → List A → Ahead → Bool
 at_case _ o = same see.Case o
 
--- Which suffixes may follow: all, `.id` alone, or none since a line end was held.
-pub data Chain : Type 0 where
-  All : Chain
-  Selections : Chain
-  Over : Chain
-
 abbrev pub first_chain : Bool → Chain
-first_chain true = All
-first_chain false = Selections
+first_chain true = chain.All
+first_chain false = chain.Selections
 
 abbrev pub goes_chain : Chain → Ahead → Bool
-goes_chain All o = same see.Dot o || same see.OpenParen o || same see.OpenBrace o || same see.Newline o
-goes_chain Selections o = same see.Dot o
-goes_chain Over o = false
+goes_chain chain.All o = same see.Dot o || same see.OpenParen o || same see.OpenBrace o || same see.Newline o
+goes_chain chain.Selections o = same see.Dot o
+goes_chain chain.Over o = false
 
 abbrev pub at_suffix : Chain × List Suffix → Ahead → Bool
 at_suffix s o = goes_chain s.0 o
 
 abbrev pub add_suffix : Chain × List Suffix → Option Suffix → Chain × List Suffix
-add_suffix s (Some x) = (All, s.1 ++ x ∷ [])
-add_suffix s None = (Over, s.1)
+add_suffix s (Some x) = (chain.All, s.1 ++ x ∷ [])
+add_suffix s None = (chain.Over, s.1)
 
 -- whether a separator stands before, and the statements
 abbrev pub at_item : {A : Type 0} → (Ahead → Bool) → Bool × List A → Ahead → Bool
@@ -376,3 +372,8 @@ module _ (expr : Reader Expr) (pattern : Reader Pattern) where
   -- Expr
   unfoldable pub any : Reader Expr
   any = choose (same see.If) if_expr (choose (same see.While) while_expr (choose (same see.Try) try_expr (choose (same see.Throw) throw_expr plain)))
+
+-- ---- the levels
+
+unfoldable pub too_deep : {A : Type 0} → (Ahead → Bool) → Reader A
+too_deep begins = λ s. Err (record { deep = begins (ahead s.1) && nothing s.0; at = s.1 })

@@ -67,7 +67,7 @@ literal_of t = literal_by t.kind t.span
 abbrev pub binding_by : Ahead → Span → Option (Binding × Span)
 binding_by see.Val s = Some (binding.Val, s)
 binding_by see.Var s = Some (binding.Var, s)
-binding_by other s = None
+binding_by o s = None
 
 -- `val` or `var`
 unfoldable pub binding_of : Token → Option (Binding × Span)

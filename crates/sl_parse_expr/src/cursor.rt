@@ -3,7 +3,7 @@
 ghost use Rattle.std.specs.Prelude.{◌≡◌, ◌++◌, ◌&&◌, [], length};
 ghost use Rattle.std.specs.Option.{option_copied};
 ghost use Rattle.sl_parse_expr.specs.Ahead.{same};
-ghost use Rattle.sl_parse_expr.specs.Reading.{ahead, first, rest, nothing, waits, head};
+ghost use Rattle.sl_parse_expr.specs.Reading.{ahead, if_clean, first, rest, nothing, waits, head};
 
 use crate::ahead::Ahead;
 use sl_ast::Token;
@@ -98,6 +98,13 @@ impl<'a> Cursor<'a> {
         ensures { result ≡ same what (ahead self.now.1) }
     {
         self.ahead().is(what)
+    }
+
+    /// Whether nothing is held and the next token is of this kind.
+    pub fn offers(&self, what: Ahead) -> bool
+        ensures { result ≡ if_clean (same what) self.now.0 (ahead self.now.1) }
+    {
+        self.is_clean() && self.is_at(what)
     }
 
     /// Takes a token, and nothing is held.
