@@ -1,3 +1,10 @@
 pub mod Slices
 pub mod Theory
 pub mod Choices
+pub mod Words
+pub mod Ends
+pub mod Shorter
+pub mod Good
+pub mod PatternGood
+pub mod Refusals
+pub mod Begun

@@ -2,6 +2,13 @@ pub mod Ahead
 pub mod Tokens
 pub mod Spans
 pub mod Trees
+pub mod PatternTrees
+pub mod Starts
+pub mod Phrases
+pub mod Grammar
 -- For proofs only.
 pub mod Reading
 pub mod Rules
+pub mod PatternRules
+pub mod Levels
+pub mod Nests

@@ -33,6 +33,7 @@ use Rattle.sl_parse_expr.specs.declared.chain.Chain.{Chain}
 use Rattle.sl_parse_expr.specs.declared.chain.Chain.TheVariants as chain
 use Rattle.sl_parse_expr.specs.Ahead.{same}
 use Rattle.sl_parse_expr.specs.Tokens.{ident_of, operator_of, sign_of, literal_of, binding_of, separator_of, separates}
+use Rattle.sl_parse_expr.specs.Starts.{begins_sign, is_operator, begins_head, begins_expr, begins_binding, begins_stat}
 use Rattle.sl_parse_expr.specs.Reading.{Reader, ◌>>=◌, ◌>>◌, pure, stuck, one, expect, hold, absorb, look, choose_by, by_ahead, choose, option, fold, clean, waits, nothing, ahead}
 use Rattle.sl_parse_expr.specs.Trees.{par_args_tree, new_tree, super_tree, simple_tree, prefix_tree, operation_tree, infix_tree, if_tree, while_tree, try_tree, throw_tree, match_tree, assign_tree, local_tree, case_tree, cases_tree, block_tree, parens_tree, block_head, name_head, literal_head, this_head, select, apply, apply_block, applied_type, named_type, plain_expr, expr_stat}
 use Rattle.sl_parse_expr.specs.Spans.{join}
@@ -57,26 +58,6 @@ binding = one binding_of
 
 unfoldable pub separator : Reader (Unit {0})
 separator = one separator_of
-
--- ---- what a rule begins with
-
-abbrev pub begins_sign : Ahead → Bool
-begins_sign o = same see.Minus o || same see.Sign o
-
-abbrev pub is_operator : Ahead → Bool
-is_operator o = same see.Id o || same see.Minus o || same see.Bar o || same see.Sign o || same see.Op o
-
-abbrev pub begins_head : Ahead → Bool
-begins_head o = same see.Literal o || same see.Id o || same see.This o || same see.Super o || same see.New o || same see.OpenParen o || same see.OpenBrace o
-
-abbrev pub begins_expr : Ahead → Bool
-begins_expr o = same see.If o || same see.While o || same see.Try o || same see.Throw o || begins_sign o || begins_head o
-
-abbrev pub begins_binding : Ahead → Bool
-begins_binding o = same see.Val o || same see.Var o
-
-abbrev pub begins_stat : Ahead → Bool
-begins_stat o = begins_binding o || begins_expr o
 
 -- ---- types
 
@@ -146,7 +127,10 @@ semi_from waiting.More o = false
 
 abbrev pub line_from : Waiting → Ahead → Bool
 line_from waiting.Nothing o = same see.Newline o
-line_from other o = false
+line_from held o = false
+
+abbrev pub at_behind : Ahead → Bool
+at_behind o = same see.Match o || same see.Equals o
 
 module _ (expr : Reader Expr) (pattern : Reader Pattern) where
   unfoldable pub next_arg : Reader Expr
@@ -359,9 +343,6 @@ module _ (expr : Reader Expr) (pattern : Reader Pattern) where
 
   unfoldable pub assign_behind : Infix → Reader Expr
   assign_behind i = expect see.Equals >> (expr >>= λ x. pure (assign_tree i x))
-
-  abbrev pub at_behind : Ahead → Bool
-  at_behind o = same see.Match o || same see.Equals o
 
   unfoldable pub behind_infix : Infix → Reader Expr
   behind_infix i = choose (same see.Match) (match_behind i) (assign_behind i)

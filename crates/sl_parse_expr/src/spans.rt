@@ -2,10 +2,11 @@
 
 ghost use Rattle.std.specs.Prelude.{◌≡◌};
 ghost use Rattle.sl_parse_expr.specs.Spans as spec;
+ghost use Rattle.sl_parse_expr.specs.Trees as trees;
 
-use sl_ast::{Args, Block, Expr, Head, Infix, Literal, Operation, ParArgs, Pat, PatS, Prefix, Simple, Stat, Suffix, TypeTree, Wildcard};
+use sl_ast::{Args, Block, Cases, Expr, Head, Infix, Literal, Operation, ParArgs, Prefix, Simple, Stat, Suffix};
 use sl_text::Span;
-use sqlite_items::Items;
+use sqlite_items::{Boxed, Items};
 
 /// From the first character of one to the last of another.
 pub fn join(from: Span, to: Span) -> Span
@@ -96,5 +97,74 @@ pub fn suffix_span(suffix: &Suffix) -> Span
         Suffix::Select(name) => name.span,
         Suffix::Apply(Args::Parens(args)) => par_args_span(args),
         Suffix::Apply(Args::Block { span, .. }) => *span,
+    }
+}
+
+#[tactic(auto, unfolding(crate::specs::Spans::stat_span))]
+pub fn stat_span(stat: &Stat) -> Span
+    ensures { result ≡ spec.stat_span stat.now }
+{
+    match stat {
+        Stat::Local { span, .. } => *span,
+        Stat::Expr(expr) => expr_span(expr),
+    }
+}
+
+#[tactic(auto, unfolding(crate::specs::Spans::operation_span))]
+pub fn operation_span(operation: &Operation) -> Span
+    ensures { result ≡ spec.operation_span operation.now }
+{
+    prefix_span(&operation.operand)
+}
+
+/// Where the last suffix stands, or what stands before them.
+pub fn last_suffix(before: Span, suffixes: &Items<Suffix>) -> Span
+    ensures { result ≡ spec.last_span spec.suffix_span before suffixes.now }
+{
+    match suffixes.get(suffixes.len().saturating_sub(1)) {
+        Some(suffix) => suffix_span(suffix),
+        None => before,
+    }
+}
+
+/// Where the last operand stands, or what stands before them.
+pub fn last_operation(before: Span, operations: &Items<Operation>) -> Span
+    ensures { result ≡ spec.last_span spec.operation_span before operations.now }
+{
+    match operations.get(operations.len().saturating_sub(1)) {
+        Some(operation) => operation_span(operation),
+        None => before,
+    }
+}
+
+/// Where the last statement of a block stands, or what stands before it.
+#[tactic(auto, unfolding(crate::specs::Spans::block_stats))]
+pub fn last_stat(before: Span, block: &Block) -> Span
+    ensures { result ≡ spec.last_span spec.stat_span before (spec.block_stats block.now) }
+{
+    match block.stats.get(block.stats.len().saturating_sub(1)) {
+        Some(stat) => stat_span(stat),
+        None => before,
+    }
+}
+
+/// Where an optional expression stands, or what stands before it.
+pub fn end_of_expr(before: Span, expr: &Option<Boxed<Expr>>) -> Span
+    ensures { result ≡ spec.span_or spec.expr_span before expr.now }
+{
+    match expr {
+        Some(expr) => expr_span(expr.get()),
+        None => before,
+    }
+}
+
+/// The cases of a handler, and where they end or what stands before them.
+pub fn end_of_cases(before: Span, handler: Option<(Cases, Span)>) -> (Option<Cases>, Span)
+    ensures cases { result.0 ≡ trees.cases_of handler }
+    ensures end { result.1 ≡ trees.end_of before handler }
+{
+    match handler {
+        Some((cases, end)) => (Some(cases), end),
+        None => (None, before),
     }
 }

@@ -186,3 +186,13 @@ pub fn literal(alloc: Global, tokens: &mut Cursor<'_>) -> Result<Literal, Stoppe
         _ => Err(Stopped::Unexpected),
     }
 }
+
+/// As many line ends as there are.
+pub fn lines(tokens: &mut Cursor<'_>) -> Result<(), Stopped>
+    ensures { Reads (spec.lines tokens.old) result tokens.new }
+{
+    'turn: while tokens.offers(Ahead::Newline) {
+        expect(tokens, Ahead::Newline)?;
+    }
+    Ok(())
+}

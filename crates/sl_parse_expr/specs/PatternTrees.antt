@@ -1,0 +1,77 @@
+-- Trees of patterns with the places where they stand.
+use Rattle.std.specs.Prelude.{ℕ, Bool, true, false, List, [], ◌∷◌, Option, Some, None}
+use Rattle.sl_text.specs.declared.span.Span.{Span}
+use Rattle.sl_ast.specs.declared.ident.Ident.{Ident}
+use Rattle.sl_ast.specs.declared.literal.Literal.{Literal}
+use Rattle.sl_ast.specs.declared.type_tree.TypeTree.{TypeTree}
+use Rattle.sl_ast.specs.declared.type_tree.TypeTree.TheVariants as types
+use Rattle.sl_ast.specs.declared.pattern.Pattern.{Pattern, roll-Pattern, out-Pattern}
+use Rattle.sl_ast.specs.declared.pattern.Pat.{Pat, out-Pat}
+use Rattle.sl_ast.specs.declared.pattern.Pat.TheVariants as pat
+use Rattle.sl_ast.specs.declared.pattern.PatS.{PatS, out-PatS}
+use Rattle.sl_ast.specs.declared.pattern.PatS.TheVariants as pats
+use Rattle.sl_ast.specs.declared.pattern.Pat.TheOpen.{Pat-F, PatS-F}
+use Rattle.sl_ast.specs.declared.pattern.Wildcard.{Wildcard}
+use Rattle.sl_ast.specs.declared.pattern.Wildcard.TheVariants as wildcard
+use Rattle.sl_parse_expr.specs.Spans.{join, literal_span, span_or, last_span}
+
+abbrev pub type_by : TypeTree → Span
+type_by (types.Name x) = x.span
+type_by (types.Applied x y s) = s
+
+unfoldable pub type_span : TypeTree → Span
+type_span t = type_by t
+
+abbrev pub wildcard_by : Wildcard → Span
+wildcard_by (wildcard.Id x) = x.span
+wildcard_by (wildcard.Any s) = s
+
+unfoldable pub wildcard_span : Wildcard → Span
+wildcard_span w = wildcard_by w
+
+abbrev pub simple_level : {A B C : Type 0} → PatS-F A B C → Span
+simple_level (PatS-F.Any s) = s
+simple_level (PatS-F.Literal m x s) = s
+simple_level (PatS-F.Id x ps s) = s
+simple_level (PatS-F.Parens p s) = s
+
+unfoldable pub simple_pattern_span : PatS → Span
+simple_pattern_span p = simple_level (out-PatS p)
+
+abbrev pub pat_level : {A B C : Type 0} → (B → Span) → Pat-F A B C → Span
+pat_level of_simple (Pat-F.Typed w t s) = s
+pat_level of_simple (Pat-F.Named x p s) = s
+pat_level of_simple (Pat-F.Simple p) = of_simple p
+
+unfoldable pub pat_span : Pat → Span
+pat_span p = pat_level simple_pattern_span (out-Pat p)
+
+abbrev pub typed_tree : Wildcard → TypeTree → Pat
+typed_tree w t = pat.Typed w t (join (wildcard_span w) (type_span t))
+
+abbrev pub named_tree : Ident → PatS → Pat
+named_tree x p = pat.Named x p (join x.span (simple_pattern_span p))
+
+abbrev pub any_tree : Span → PatS
+any_tree s = pats.Any s
+
+abbrev pub literal_tree : Literal → PatS
+literal_tree x = pats.Literal false x (literal_span x)
+
+abbrev pub minus_tree : Span → Literal → PatS
+minus_tree s x = pats.Literal true x (join s (literal_span x))
+
+abbrev pub name_tree : Ident → PatS
+name_tree x = pats.Id x None x.span
+
+abbrev pub constructor_tree : Ident → List Pattern → Span → PatS
+constructor_tree x ps s = pats.Id x (Some ps) (join x.span s)
+
+abbrev pub inside_tree : Span → Pattern → Span → PatS
+inside_tree s p t = pats.Parens p (join s t)
+
+abbrev pub simple_as_pat : PatS → Pat
+simple_as_pat p = pat.Simple p
+
+abbrev pub pattern_tree : Pat → List Pat → Pattern
+pattern_tree p ps = roll-Pattern (record { first = p; rest = ps; span = join (pat_span p) (last_span pat_span (pat_span p) ps) })
