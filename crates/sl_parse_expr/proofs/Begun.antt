@@ -171,10 +171,10 @@ is_sign t h = has_value begins_sign sign_by (λ n p h. absurd cc) (λ n p h. by_
 
 -- ---- what stands behind a head where nothing follows
 
-skip : {A : Type 0} (test : Ahead → Bool) (q r : Reader A) (ts : List Token) → test (ahead ts) ≡ false → choose test q r ([], ts) ≡ r ([], ts)
+pub skip : {A : Type 0} (test : Ahead → Bool) (q r : Reader A) (ts : List Token) → test (ahead ts) ≡ false → choose test q r ([], ts) ≡ r ([], ts)
 skip test q r ts h = rw h refl
 
-enter : {A : Type 0} (test : Ahead → Bool) (q r : Reader A) (ts : List Token) → test (ahead ts) ≡ true → choose test q r ([], ts) ≡ q ([], ts)
+pub enter : {A : Type 0} (test : Ahead → Bool) (q r : Reader A) (ts : List Token) → test (ahead ts) ≡ true → choose test q r ([], ts) ≡ q ([], ts)
 enter test q r ts h = rw h refl
 
 -- what begins an expression by a word of its own or a sign
@@ -259,8 +259,8 @@ brace_stays = refl
 
 module _ (x : Reader Expr) (y : Reader Pattern) (b : Token) where
   -- a head can be completed
-  abbrev Heads : Type 0
-  Heads = (v : List Token) × ((follow : List Token) → closers (ahead follow) ≡ true → (h : Head) × (all : Bool) × (start x y ([], b ∷ (v ++ follow)) ≡ ok_of (h, all) [] follow))
+  abbrev Heads : List Token → Type 0
+  Heads v = ((follow : List Token) → closers (ahead follow) ≡ true → (h : Head) × (all : Bool) × (start x y ([], b ∷ (v ++ follow)) ≡ ok_of (h, all) [] follow))
 
   abbrev rest6 : Reader (Head × Bool)
   rest6 = choose (same see.OpenParen) (parens_start x y) (block_start x y)
@@ -313,52 +313,52 @@ module _ (x : Reader Expr) (y : Reader Pattern) (b : Token) where
     to_brace : sort b ≡ see.OpenBrace → start x y ([], b ∷ ts) ≡ block_start x y ([], b ∷ ts)
     to_brace e = to_6 see.OpenBrace e refl refl refl refl refl ∙ skip (same see.OpenParen) (parens_start x y) (block_start x y) (b ∷ ts) (at_kind see.OpenBrace e see.OpenParen false refl)
 
-  head_literal : same see.Literal (sort b) ≡ true → Heads
+  pub head_literal : same see.Literal (sort b) ≡ true → Heads ([])
   unfolding literal_start literal
-  head_literal e = let l = is_literal b e in ([], λ follow end. (literal_head l.0, true, to_literal follow e ∙ rw (one_reads literal_of b l.0 follow l.1) refl))
+  head_literal e = let l = is_literal b e in λ follow end. (literal_head l.0, true, to_literal follow e ∙ rw (one_reads literal_of b l.0 follow l.1) refl)
 
-  head_name : sort b ≡ see.Id → Heads
+  pub head_name : sort b ≡ see.Id → Heads ([])
   unfolding name_start name
-  head_name e = let l = is_name b (ap (λ (o : Ahead). same see.Id o) e) in ([], λ follow end. (name_head l.0, true, to_name follow e ∙ rw (one_reads ident_of b l.0 follow l.1) refl))
+  head_name e = let l = is_name b (ap (λ (o : Ahead). same see.Id o) e) in λ follow end. (name_head l.0, true, to_name follow e ∙ rw (one_reads ident_of b l.0 follow l.1) refl)
 
-  head_this : sort b ≡ see.This → Heads
+  pub head_this : sort b ≡ see.This → Heads ([])
   unfolding this_start
-  head_this e = ([], λ follow end. (this_head b.span, true, to_this follow e ∙ rw (word_reads see.This b follow (ap (λ (o : Ahead). same see.This o) e)) refl))
+  head_this e = λ follow end. (this_head b.span, true, to_this follow e ∙ rw (word_reads see.This b follow (ap (λ (o : Ahead). same see.This o) e)) refl)
 
-  head_super : sort b ≡ see.Super → Heads
+  pub head_super : sort b ≡ see.Super → Heads (dot ∷ t_name ∷ [])
   unfolding super_start name
-  head_super e = (dot ∷ t_name ∷ [], λ follow end. (super_tree b.span a_name, true, to_super (dot ∷ t_name ∷ follow) e ∙ rw (word_reads see.Super b (dot ∷ t_name ∷ follow) (ap (λ (o : Ahead). same see.Super o) e)) (rw (word_reads see.Dot dot (t_name ∷ follow) dot_is) (rw (one_reads ident_of t_name a_name follow name_is) refl))))
+  head_super e = λ follow end. (super_tree b.span a_name, true, to_super (dot ∷ t_name ∷ follow) e ∙ rw (word_reads see.Super b (dot ∷ t_name ∷ follow) (ap (λ (o : Ahead). same see.Super o) e)) (rw (word_reads see.Dot dot (t_name ∷ follow) dot_is) (rw (one_reads ident_of t_name a_name follow name_is) refl)))
 
-  head_new : sort b ≡ see.New → Heads
+  pub head_new : sort b ≡ see.New → Heads (t_name ∷ [])
   unfolding new_start name
-  head_new e = (t_name ∷ [], λ follow end. (new_tree b.span a_name None, false, to_new (t_name ∷ follow) e ∙ rw (word_reads see.New b (t_name ∷ follow) (ap (λ (o : Ahead). same see.New o) e)) (rw (one_reads ident_of t_name a_name follow name_is) (rw (at_closers (λ o. same see.OpenParen o ≡ false) refl refl refl refl (ahead follow) end) refl))))
+  head_new e = λ follow end. (new_tree b.span a_name None, false, to_new (t_name ∷ follow) e ∙ rw (word_reads see.New b (t_name ∷ follow) (ap (λ (o : Ahead). same see.New o) e)) (rw (one_reads ident_of t_name a_name follow name_is) (rw (at_closers (λ o. same see.OpenParen o ≡ false) refl refl refl refl (ahead follow) end) refl)))
 
-  head_paren : sort b ≡ see.OpenParen → Heads
+  pub head_paren : sort b ≡ see.OpenParen → Heads (close_paren ∷ [])
   unfolding parens_start nothing_inside
-  head_paren e = (close_paren ∷ [], λ follow end. (parens_tree b.span None nowhere, true, to_paren (close_paren ∷ follow) e ∙ rw (word_reads see.OpenParen b (close_paren ∷ follow) (ap (λ (o : Ahead). same see.OpenParen o) e)) (rw close_paren_is (rw (word_reads see.CloseParen close_paren follow close_paren_is) refl))))
+  head_paren e = λ follow end. (parens_tree b.span None nowhere, true, to_paren (close_paren ∷ follow) e ∙ rw (word_reads see.OpenParen b (close_paren ∷ follow) (ap (λ (o : Ahead). same see.OpenParen o) e)) (rw close_paren_is (rw (word_reads see.CloseParen close_paren follow close_paren_is) refl)))
 
-  head_brace : sort b ≡ see.OpenBrace → Heads
+  pub head_brace : sort b ≡ see.OpenBrace → Heads (close_brace ∷ [])
   unfolding block_start braces block stats absorb
-  head_brace e = (close_brace ∷ [], λ follow end. (block_head (block_tree []) (record { from = b.span.from; to = 0 }), false, to_brace (close_brace ∷ follow) e ∙ rw (word_reads see.OpenBrace b (close_brace ∷ follow) (ap (λ (o : Ahead). same see.OpenBrace o) e)) (rw (fold_stays (clean (at_item begins_stat)) (block_item x y) add_item (λ s d. ap (λ (z : Bool). nothing d && z) (both_false s.0) ∙ both_false (nothing d)) (true, []) [] (close_brace ∷ follow) brace_stays) (rw (word_reads see.CloseBrace close_brace follow close_brace_is) refl))))
+  head_brace e = λ follow end. (block_head (block_tree []) (record { from = b.span.from; to = 0 }), false, to_brace (close_brace ∷ follow) e ∙ rw (word_reads see.OpenBrace b (close_brace ∷ follow) (ap (λ (o : Ahead). same see.OpenBrace o) e)) (rw (fold_stays (clean (at_item begins_stat)) (block_item x y) add_item (λ s d. ap (λ (z : Bool). nothing d && z) (both_false s.0) ∙ both_false (nothing d)) (true, []) [] (close_brace ∷ follow) brace_stays) (rw (word_reads see.CloseBrace close_brace follow close_brace_is) refl)))
 
 -- ---- whole expressions, over a reader that reads `null`
 
 module _ (x : Reader Expr) (y : Reader Pattern) (reads : (follow : List Token) → closers (ahead follow) ≡ true → x ([], lit ++ follow) ≡ ok_of lit_tree [] follow) (b : Token) where
-  abbrev Whole : Type 0
-  Whole = (v : List Token) × ((follow : List Token) → closers (ahead follow) ≡ true → (u : Expr) × (any x y ([], b ∷ (v ++ follow)) ≡ ok_of u [] follow))
+  abbrev pub Whole : List Token → Type 0
+  Whole v = ((follow : List Token) → closers (ahead follow) ≡ true → (u : Expr) × (any x y ([], b ∷ (v ++ follow)) ≡ ok_of u [] follow))
 
-  by_head : (k : Ahead) → sort b ≡ k → opening k ≡ false → Heads x y b → Whole
-  by_head k e q h = (h.0, λ follow end. let i = h.1 follow end in (_, any_alone x y (b ∷ (h.0 ++ follow)) follow end i.0 i.1 (ap (λ (o : Ahead). opening o) e ∙ q) i.2))
+  pub by_head : (k : Ahead) → sort b ≡ k → opening k ≡ false → (v : List Token) → Heads x y b v → Whole v
+  by_head k e q v h = λ follow end. let i = h follow end in (_, any_alone x y (b ∷ (v ++ follow)) follow end i.0 i.1 (ap (λ (o : Ahead). opening o) e ∙ q) i.2)
 
   prefix_signed : (ts : List Token) → begins_sign (ahead ts) ≡ true → prefix x y ([], ts) ≡ signed x y ([], ts)
   unfolding prefix
   prefix_signed ts h = enter begins_sign (signed x y) (unsigned x y) ts h
 
-  by_sign : (k : Ahead) → sort b ≡ k → (same see.If k || same see.While k || same see.Try k || same see.Throw k) ≡ false → begins_sign k ≡ true → Whole
+  pub by_sign : (k : Ahead) → sort b ≡ k → (same see.If k || same see.While k || same see.Try k || same see.Throw k) ≡ false → begins_sign k ≡ true → Whole lit
   unfolding signed sign
   by_sign k e q h =
       let g = is_sign b (ap (λ (o : Ahead). begins_sign o) e ∙ h) in
-      (lit, λ follow end. (
+      (λ follow end. (
         plain_expr (infix_tree (prefix_tree (Some g.0) (simple_tree (literal_head (literals.Null nowhere)) [])) []),
         any_plain x y (b ∷ (lit ++ follow)) follow end (ap (λ (o : Ahead). same see.If o || same see.While o || same see.Try o || same see.Throw o) e ∙ q)
             ∙ plain_alone x y (b ∷ (lit ++ follow)) follow end (prefix_tree (Some g.0) (simple_tree (literal_head (literals.Null nowhere)) []))

@@ -73,6 +73,10 @@ pub good_lines : (n : ℕ) → Good starts [] n (λ _. lines)
 unfolding lines sort
 good_lines n = good_loop at_line starts (t_line ∷ []) n (λ _. expect see.Newline) one_more (λ s. refl) (λ s o h. not_line o h) refl (last see.Newline t_line refl) tt
 
+pub newline : (n : ℕ) → Good always (t_line ∷ []) n (λ _. expect see.Newline)
+unfolding sort
+newline n = tk see.Newline t_line refl
+
 -- ---- the rules, over families of readers of the expressions and patterns inside
 
 module _ (n : ℕ) (a : ℕ → Reader Expr) (b : ℕ → Reader Pattern) (good : Good closers lit n a) (good_pattern : Good arrows under n b) where

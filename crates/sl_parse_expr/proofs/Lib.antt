@@ -8,3 +8,8 @@ pub mod Good
 pub mod PatternGood
 pub mod Refusals
 pub mod Begun
+pub mod Wholes
+pub mod Ground
+pub mod PatternBegun
+pub mod Level
+pub mod Loops

@@ -2,9 +2,10 @@
 
 ghost use Rattle.std.specs.Prelude.{◌≡◌};
 ghost use Rattle.sl_parse_expr.specs.Spans as spec;
+ghost use Rattle.sl_parse_expr.specs.PatternTrees as patterns;
 ghost use Rattle.sl_parse_expr.specs.Trees as trees;
 
-use sl_ast::{Args, Block, Cases, Expr, Head, Infix, Literal, Operation, ParArgs, Prefix, Simple, Stat, Suffix};
+use sl_ast::{Args, Block, Cases, Expr, Head, Infix, Literal, Operation, ParArgs, Pat, PatS, Prefix, Simple, Stat, Suffix, TypeTree, Wildcard};
 use sl_text::Span;
 use sqlite_items::{Boxed, Items};
 
@@ -166,5 +167,57 @@ pub fn end_of_cases(before: Span, handler: Option<(Cases, Span)>) -> (Option<Cas
     match handler {
         Some((cases, end)) => (Some(cases), end),
         None => (None, before),
+    }
+}
+
+#[tactic(auto, unfolding(crate::specs::PatternTrees::type_span))]
+pub fn type_span(ty: &TypeTree) -> Span
+    ensures { result ≡ patterns.type_span ty.now }
+{
+    match ty {
+        TypeTree::Name(name) => name.span,
+        TypeTree::Applied { span, .. } => *span,
+    }
+}
+
+#[tactic(auto, unfolding(crate::specs::PatternTrees::wildcard_span))]
+pub fn wildcard_span(name: &Wildcard) -> Span
+    ensures { result ≡ patterns.wildcard_span name.now }
+{
+    match name {
+        Wildcard::Id(name) => name.span,
+        Wildcard::Any(span) => *span,
+    }
+}
+
+#[tactic(auto, unfolding(crate::specs::PatternTrees::simple_pattern_span))]
+pub fn simple_pattern_span(pattern: &PatS) -> Span
+    ensures { result ≡ patterns.simple_pattern_span pattern.now }
+{
+    match pattern {
+        PatS::Any(span)
+        | PatS::Literal { span, .. }
+        | PatS::Id { span, .. }
+        | PatS::Parens { span, .. } => *span,
+    }
+}
+
+#[tactic(auto, unfolding(crate::specs::PatternTrees::pat_span))]
+pub fn pat_span(pattern: &Pat) -> Span
+    ensures { result ≡ patterns.pat_span pattern.now }
+{
+    match pattern {
+        Pat::Typed { span, .. } | Pat::Named { span, .. } => *span,
+        Pat::Simple(simple) => simple_pattern_span(simple),
+    }
+}
+
+/// Where the last alternative stands, or what stands before them.
+pub fn last_pat(before: Span, alternatives: &Items<Pat>) -> Span
+    ensures { result ≡ spec.last_span patterns.pat_span before alternatives.now }
+{
+    match alternatives.get(alternatives.len().saturating_sub(1)) {
+        Some(pattern) => pat_span(pattern),
+        None => before,
     }
 }

@@ -129,3 +129,11 @@ pub fn line_from(held: Waiting, next: Ahead) -> bool
         _ => false,
     }
 }
+
+/// Whether `:`, `@` or a parenthesis follows a name in a pattern.
+pub fn offers_name(tokens: &Cursor<'_>) -> bool
+    ensures { result ≡ if_clean patterns.at_name tokens.now.0 (ahead tokens.now.1) }
+{
+    tokens.is_clean()
+        && (tokens.is_at(Ahead::Colon) || tokens.is_at(Ahead::At) || tokens.is_at(Ahead::OpenParen))
+}

@@ -1,0 +1,35 @@
+use Rattle.std.proofs.Common.{◌≡◌, ◌∙◌, ap, sym, rules, arith, refl, Ok, Err, true, false, List, [], ◌∷◌, Some, None, Bool}
+use Rattle.std.specs.Prelude.{◌&&◌}
+use Rattle.std.proofs.lemmas.Grind.{common_steps}
+use Rattle.sl_ast.specs.declared.token.Token.{Token}
+use Rattle.sl_parse_expr.specs.declared.ahead.Ahead.TheVariants as see
+use Rattle.sl_parse_expr.specs.Reading.{Reads, ahead, fold, clean, expect, if_clean}
+use Rattle.sl_parse_expr.proofs.Loops.{eats_of, goes_on, ends, fails_as}
+use Rattle.sl_parse_expr.specs.Levels.{expr}
+use Rattle.sl_parse_expr.specs.PatternRules.{pattern}
+use Rattle.sl_parse_expr.specs.Rules.{more_args, next_arg, at_comma, added}
+use Rattle.sl_parse_expr.proofs.Level.{level, pattern_level}
+use Rattle.sl_parse_expr.proofs.Good.{good_next_arg}
+use Rattle.sl_parse_expr.proofs.grammar.Grammar.more_args.Goals as goal
+
+pub returns-in_err-next_arg : goal.returns-in_err-next_arg
+returns-in_err-next_arg g c =
+    let h = sym c.offers.ensures ∙ c.turn-test.true in
+    let f : Reads (more_args (expr c.args.self.now.depth) (pattern c.args.self.now.depth) c.args.first c.args.tokens.now) (Err c.in_err-next_arg.field-0.0) c.next_arg.new.tokens = fails_as at_comma (next_arg (expr c.args.self.now.depth) (pattern c.args.self.now.depth)) added (λ s. refl) (eats_of c.args.self.now.depth (good_next_arg c.args.self.now.depth expr pattern (level c.args.self.now.depth) (pattern_level c.args.self.now.depth)) refl) (more_args (expr c.args.self.now.depth) (pattern c.args.self.now.depth) c.args.first c.args.tokens.now) c.turn.found c.turn.tokens c.turn.invariant h c.in_err-next_arg.field-0.0 c.next_arg.new.tokens c.in_err-next_arg.ensures in
+    first_of (search rules, grind (arith, common_steps))
+
+pub turn-init : goal.turn-init
+unfolding more_args
+turn-init g c = refl
+
+pub turn-smaller : goal.turn-smaller
+turn-smaller g c = (eats_of c.args.self.now.depth (good_next_arg c.args.self.now.depth expr pattern (level c.args.self.now.depth) (pattern_level c.args.self.now.depth)) refl).eats c.turn.tokens _ c.next_arg.new.tokens c.in_ok-next_arg.ensures
+
+pub turn-preserved : goal.turn-preserved
+turn-preserved g c =
+    let h = sym c.offers.ensures ∙ c.turn-test.true in
+    let f = goes_on at_comma (next_arg (expr c.args.self.now.depth) (pattern c.args.self.now.depth)) added (λ s. refl) (eats_of c.args.self.now.depth (good_next_arg c.args.self.now.depth expr pattern (level c.args.self.now.depth) (pattern_level c.args.self.now.depth)) refl) (more_args (expr c.args.self.now.depth) (pattern c.args.self.now.depth) c.args.first c.args.tokens.now) c.turn.found c.turn.tokens c.turn.invariant h _ c.next_arg.new.tokens c.in_ok-next_arg.ensures in
+    rw c.in_ok-push.ensures.ok f
+
+pub returns : goal.returns
+returns g c = ends at_comma (next_arg (expr c.args.self.now.depth) (pattern c.args.self.now.depth)) added (λ s. refl) (eats_of c.args.self.now.depth (good_next_arg c.args.self.now.depth expr pattern (level c.args.self.now.depth) (pattern_level c.args.self.now.depth)) refl) (more_args (expr c.args.self.now.depth) (pattern c.args.self.now.depth) c.args.first c.args.tokens.now) c.turn.found c.turn.tokens c.turn.invariant (sym c.offers.ensures ∙ c.turn-test.false)

@@ -1,0 +1,15 @@
+use Rattle.std.proofs.Common.{◌≡◌, length, List, [], true, false}
+use Rattle.sl_parse_expr.specs.declared.ahead.Ahead.TheVariants as see
+use Rattle.sl_parse_expr.specs.Reading.{fold, clean, expect}
+use Rattle.sl_parse_expr.specs.Levels.{expr}
+use Rattle.sl_parse_expr.specs.PatternRules.{pattern}
+use Rattle.sl_parse_expr.specs.Rules.{operations, operation, at_operator, added}
+use Rattle.sl_parse_expr.proofs.Level.{level, pattern_level}
+use Rattle.sl_parse_expr.proofs.Good.{good_operation}
+use Rattle.sl_parse_expr.proofs.grammar.Grammar.operations.Given as goal
+
+abbrev pub invariant-turn : goal.invariant-turn
+invariant-turn g l = operations (expr l.fn.self.depth) (pattern l.fn.self.depth) l.fn.tokens ≡ fold (clean at_operator) (operation (expr l.fn.self.depth) (pattern l.fn.self.depth)) added l.found l.tokens
+
+abbrev pub decreases-turn : goal.decreases-turn
+decreases-turn g l = length l.tokens.1
