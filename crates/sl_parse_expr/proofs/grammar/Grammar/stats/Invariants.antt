@@ -5,7 +5,7 @@ use Rattle.sl_parse_expr.specs.Levels.{expr}
 use Rattle.sl_parse_expr.specs.PatternRules.{pattern}
 use Rattle.sl_parse_expr.specs.Rules.{stats, block_item, at_item, add_item}
 use Rattle.sl_parse_expr.proofs.Level.{level, pattern_level}
-use Rattle.sl_parse_expr.proofs.Good.{good_block_item, item_none)}
+use Rattle.sl_parse_expr.proofs.Good.{good_block_item, item_none}
 use Rattle.sl_parse_expr.specs.Starts.{begins_stat}
 use Rattle.sl_parse_expr.proofs.grammar.Grammar.stats.Given as goal
 

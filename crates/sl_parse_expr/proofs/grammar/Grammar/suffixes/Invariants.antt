@@ -5,7 +5,7 @@ use Rattle.sl_parse_expr.specs.Levels.{expr}
 use Rattle.sl_parse_expr.specs.PatternRules.{pattern}
 use Rattle.sl_parse_expr.specs.Rules.{suffixes, suffix, at_suffix, add_suffix}
 use Rattle.sl_parse_expr.proofs.Level.{level, pattern_level}
-use Rattle.sl_parse_expr.proofs.Good.{good_suffix, suffix_none)}
+use Rattle.sl_parse_expr.proofs.Good.{good_suffix, suffix_none}
 use Rattle.sl_parse_expr.proofs.grammar.Grammar.suffixes.Given as goal
 
 abbrev pub invariant-turn : goal.invariant-turn
