@@ -207,9 +207,9 @@ module _ (x : Reader Expr) (y : Reader Pattern) (ts follow : List Token) (end : 
       let k : same see.Try (ahead ts) ≡ false = or_right _ _ h3 in
       let l : same see.Throw (ahead ts) ≡ false = or_right _ _ h in
       skip (same see.If) (if_expr x y) (choose (same see.While) (while_expr x y) (choose (same see.Try) (try_expr x y) (choose (same see.Throw) (throw_expr x y) (plain x y)))) ts i
-          ∙ skip (same see.While) (while_expr x y) (choose (same see.Try) (try_expr x y) (choose (same see.Throw) (throw_expr x y) (plain x y))) ts j
-          ∙ skip (same see.Try) (try_expr x y) (choose (same see.Throw) (throw_expr x y) (plain x y)) ts k
-          ∙ skip (same see.Throw) (throw_expr x y) (plain x y) ts l
+      ∙ skip (same see.While) (while_expr x y) (choose (same see.Try) (try_expr x y) (choose (same see.Throw) (throw_expr x y) (plain x y))) ts j
+      ∙ skip (same see.Try) (try_expr x y) (choose (same see.Throw) (throw_expr x y) (plain x y)) ts k
+      ∙ skip (same see.Throw) (throw_expr x y) (plain x y) ts l
 
   any_alone : (h : Head) (all : Bool) → opening (ahead ts) ≡ false → start x y ([], ts) ≡ ok_of (h, all) [] follow → any x y ([], ts) ≡ ok_of (plain_expr (infix_tree (prefix_tree None (simple_tree h [])) [])) [] follow
   unfolding prefix unsigned
@@ -362,5 +362,5 @@ module _ (x : Reader Expr) (y : Reader Pattern) (reads : (follow : List Token) �
         plain_expr (infix_tree (prefix_tree (Some g.0) (simple_tree (literal_head (literals.Null nowhere)) [])) []),
         any_plain x y (b ∷ (lit ++ follow)) follow end (ap (λ (o : Ahead). same see.If o || same see.While o || same see.Try o || same see.Throw o) e ∙ q)
             ∙ plain_alone x y (b ∷ (lit ++ follow)) follow end (prefix_tree (Some g.0) (simple_tree (literal_head (literals.Null nowhere)) []))
-                (prefix_signed (b ∷ (lit ++ follow)) (ap (λ (o : Ahead). begins_sign o) e ∙ h) ∙ rw (one_reads sign_of b g.0 (lit ++ follow) g.1) (rw (simple_alone x y (lit ++ follow) follow end (literal_head (literals.Null nowhere)) true (lit_start x y follow)) refl)),
+            (prefix_signed (b ∷ (lit ++ follow)) (ap (λ (o : Ahead). begins_sign o) e ∙ h) ∙ rw (one_reads sign_of b g.0 (lit ++ follow) g.1) (rw (simple_alone x y (lit ++ follow) follow end (literal_head (literals.Null nowhere)) true (lit_start x y follow)) refl)),
       ))

@@ -391,8 +391,8 @@ module _ (n : ℕ) (a : ℕ → Reader Expr) (b : ℕ → Reader Pattern) (good 
   unfolding other
   good_other = good_option closers n (λ m. other_by (a m) (b m)) None other_none (λ d m t h. other_stays d m (sort t) h)
       (λ d t. else_at (λ m. if semi_from (waits d) (sort t) then hold (third (a m) (b m)) else if line_from (waits d) (sort t) then hold (second (a m) (b m)) else pure None) d t (same see.Else (sort t)) refl
-          (λ _. hold_at (semi_from (waits d) (sort t)) (λ m. third (a m) (b m)) (λ m. if line_from (waits d) (sort t) then hold (second (a m) (b m)) else pure None) d t (semi_from (waits d) (sort t)) refl good_third (third_done (d ++ t ∷ []))
-              (hold_at (line_from (waits d) (sort t)) (λ m. second (a m) (b m)) (λ _. pure None) d t (line_from (waits d) (sort t)) refl good_second (second_done (d ++ t ∷ [])) (inr (λ m. refl)))))
+      (λ _. hold_at (semi_from (waits d) (sort t)) (λ m. third (a m) (b m)) (λ m. if line_from (waits d) (sort t) then hold (second (a m) (b m)) else pure None) d t (semi_from (waits d) (sort t)) refl good_third (third_done (d ++ t ∷ []))
+      (hold_at (line_from (waits d) (sort t)) (λ m. second (a m) (b m)) (λ _. pure None) d t (line_from (waits d) (sort t)) refl good_second (second_done (d ++ t ∷ [])) (inr (λ m. refl)))))
 
   good_condition : Good starts (open_paren ∷ key 20 ∷ close_paren ∷ []) n (λ m. condition (a m) (b m))
   unfolding condition sort

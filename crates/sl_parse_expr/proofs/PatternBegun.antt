@@ -93,23 +93,35 @@ module _ (y : Reader Pattern) (reads : (follow : List Token) → arrows (ahead f
 
   whole_name : sort b ≡ see.Id → WholePattern ([])
   unfolding by_name name
-  whole_name e = let l = is_name b (at_kind y b see.Id e see.Id true refl) in λ follow end. (pattern_tree (simple_as_pat (name_tree l.0)) [], pat_alone y (b ∷ follow) follow (simple_as_pat (name_tree l.0)) end
-      (to_name y b follow e ∙ rw (one_reads ident_of b l.0 follow l.1) (rw (at_arrows (λ o. at_name o ≡ false) refl refl refl (ahead follow) end) refl)))
+  whole_name e = let l = is_name b (at_kind y b see.Id e see.Id true refl) in λ follow end. (
+    pattern_tree (simple_as_pat (name_tree l.0)) [],
+    pat_alone y (b ∷ follow) follow (simple_as_pat (name_tree l.0)) end
+        (to_name y b follow e ∙ rw (one_reads ident_of b l.0 follow l.1) (rw (at_arrows (λ o. at_name o ≡ false) refl refl refl (ahead follow) end) refl)),
+  )
 
   whole_inside : sort b ≡ see.OpenParen → WholePattern (mark 0 ∷ close_paren ∷ [])
   unfolding by_itself inside
-  whole_inside e = λ follow end. (pattern_tree (simple_as_pat (inside_tree b.span under_tree nowhere)) [], pat_alone y (b ∷ mark 0 ∷ close_paren ∷ follow) follow (simple_as_pat (inside_tree b.span under_tree nowhere)) end
-      (to_itself y b (mark 0 ∷ close_paren ∷ follow) see.OpenParen e refl refl ∙ rw (to_inside y b (mark 0 ∷ close_paren ∷ follow) e) (rw (word_reads see.OpenParen b (mark 0 ∷ close_paren ∷ follow) (at_kind y b see.OpenParen e see.OpenParen true refl)) (rw (reads (close_paren ∷ follow) close_ends) (rw (word_reads see.CloseParen close_paren follow close_is) refl)))))
+  whole_inside e = λ follow end. (
+    pattern_tree (simple_as_pat (inside_tree b.span under_tree nowhere)) [],
+    pat_alone y (b ∷ mark 0 ∷ close_paren ∷ follow) follow (simple_as_pat (inside_tree b.span under_tree nowhere)) end
+        (to_itself y b (mark 0 ∷ close_paren ∷ follow) see.OpenParen e refl refl ∙ rw (to_inside y b (mark 0 ∷ close_paren ∷ follow) e) (rw (word_reads see.OpenParen b (mark 0 ∷ close_paren ∷ follow) (at_kind y b see.OpenParen e see.OpenParen true refl)) (rw (reads (close_paren ∷ follow) close_ends) (rw (word_reads see.CloseParen close_paren follow close_is) refl)))),
+  )
 
   whole_minus : sort b ≡ see.Minus → WholePattern (lit)
   unfolding by_itself minus literal
-  whole_minus e = λ follow end. (pattern_tree (simple_as_pat (minus_tree b.span (literals.Null nowhere))) [], pat_alone y (b ∷ key 20 ∷ follow) follow (simple_as_pat (minus_tree b.span (literals.Null nowhere))) end
-      (to_itself y b (key 20 ∷ follow) see.Minus e refl refl ∙ rw (to_minus y b (key 20 ∷ follow) e) (rw (word_reads see.Minus b (key 20 ∷ follow) (at_kind y b see.Minus e see.Minus true refl)) (rw (one_reads literal_of (key 20) (literals.Null nowhere) follow lit_is) refl))))
+  whole_minus e = λ follow end. (
+    pattern_tree (simple_as_pat (minus_tree b.span (literals.Null nowhere))) [],
+    pat_alone y (b ∷ key 20 ∷ follow) follow (simple_as_pat (minus_tree b.span (literals.Null nowhere))) end
+        (to_itself y b (key 20 ∷ follow) see.Minus e refl refl ∙ rw (to_minus y b (key 20 ∷ follow) e) (rw (word_reads see.Minus b (key 20 ∷ follow) (at_kind y b see.Minus e see.Minus true refl)) (rw (one_reads literal_of (key 20) (literals.Null nowhere) follow lit_is) refl))),
+  )
 
   whole_literal : sort b ≡ see.Literal → WholePattern ([])
   unfolding by_itself no_minus literal
-  whole_literal e = let l = is_literal b (at_kind y b see.Literal e see.Literal true refl) in λ follow end. (pattern_tree (simple_as_pat (literal_tree l.0)) [], pat_alone y (b ∷ follow) follow (simple_as_pat (literal_tree l.0)) end
-      (to_itself y b follow see.Literal e refl refl ∙ rw (to_literal y b follow e) (rw (one_reads literal_of b l.0 follow l.1) refl)))
+  whole_literal e = let l = is_literal b (at_kind y b see.Literal e see.Literal true refl) in λ follow end. (
+    pattern_tree (simple_as_pat (literal_tree l.0)) [],
+    pat_alone y (b ∷ follow) follow (simple_as_pat (literal_tree l.0)) end
+        (to_itself y b follow see.Literal e refl refl ∙ rw (to_literal y b follow e) (rw (one_reads literal_of b l.0 follow l.1) refl)),
+  )
 
   pub begun_pattern : (k : Ahead) → sort b ≡ k → begins_pattern k ≡ true → WholePattern (pattern_word k)
   begun_pattern see.Id e h = whole_name e

@@ -84,23 +84,31 @@ module _ (x : Reader Expr) (y : Reader Pattern) (reads : (follow : List Token) �
 
   whole_if : sort b ≡ see.If → Whole x y reads b (open_paren ∷ key 20 ∷ close_paren ∷ key 20 ∷ [])
   unfolding if_expr
-  whole_if e = λ follow end. (if_tree b.span lit_tree lit_tree None,
-      to_if (open_paren ∷ key 20 ∷ close_paren ∷ key 20 ∷ follow) e ∙ rw (word_reads see.If b (open_paren ∷ key 20 ∷ close_paren ∷ key 20 ∷ follow) (at_kind see.If e see.If true refl)) (rw (reads_condition (key 20 ∷ follow) lit_stays) (rw (reads follow end) (rw (other_none follow end) refl))))
+  whole_if e = λ follow end. (
+    if_tree b.span lit_tree lit_tree None,
+    to_if (open_paren ∷ key 20 ∷ close_paren ∷ key 20 ∷ follow) e ∙ rw (word_reads see.If b (open_paren ∷ key 20 ∷ close_paren ∷ key 20 ∷ follow) (at_kind see.If e see.If true refl)) (rw (reads_condition (key 20 ∷ follow) lit_stays) (rw (reads follow end) (rw (other_none follow end) refl))),
+  )
 
   whole_while : sort b ≡ see.While → Whole x y reads b (open_paren ∷ key 20 ∷ close_paren ∷ key 20 ∷ [])
   unfolding while_expr
-  whole_while e = λ follow end. (while_tree b.span lit_tree lit_tree,
-      to_while (open_paren ∷ key 20 ∷ close_paren ∷ key 20 ∷ follow) e ∙ rw (word_reads see.While b (open_paren ∷ key 20 ∷ close_paren ∷ key 20 ∷ follow) (at_kind see.While e see.While true refl)) (rw (reads_condition (key 20 ∷ follow) lit_stays) (rw (reads follow end) refl)))
+  whole_while e = λ follow end. (
+    while_tree b.span lit_tree lit_tree,
+    to_while (open_paren ∷ key 20 ∷ close_paren ∷ key 20 ∷ follow) e ∙ rw (word_reads see.While b (open_paren ∷ key 20 ∷ close_paren ∷ key 20 ∷ follow) (at_kind see.While e see.While true refl)) (rw (reads_condition (key 20 ∷ follow) lit_stays) (rw (reads follow end) refl)),
+  )
 
   whole_try : sort b ≡ see.Try → Whole x y reads b (lit)
   unfolding try_expr
-  whole_try e = λ follow end. (try_tree b.span lit_tree None None,
-      to_try (key 20 ∷ follow) e ∙ rw (word_reads see.Try b (key 20 ∷ follow) (at_kind see.Try e see.Try true refl)) (rw (reads follow end) (rw (at_closers (λ o. same see.Catch o ≡ false) refl refl refl refl (ahead follow) end) (rw (at_closers (λ o. same see.Finally o ≡ false) refl refl refl refl (ahead follow) end) refl))))
+  whole_try e = λ follow end. (
+    try_tree b.span lit_tree None None,
+    to_try (key 20 ∷ follow) e ∙ rw (word_reads see.Try b (key 20 ∷ follow) (at_kind see.Try e see.Try true refl)) (rw (reads follow end) (rw (at_closers (λ o. same see.Catch o ≡ false) refl refl refl refl (ahead follow) end) (rw (at_closers (λ o. same see.Finally o ≡ false) refl refl refl refl (ahead follow) end) refl))),
+  )
 
   whole_throw : sort b ≡ see.Throw → Whole x y reads b (lit)
   unfolding throw_expr
-  whole_throw e = λ follow end. (throw_tree b.span lit_tree,
-      to_throw (key 20 ∷ follow) e ∙ rw (word_reads see.Throw b (key 20 ∷ follow) (at_kind see.Throw e see.Throw true refl)) (rw (reads follow end) refl))
+  whole_throw e = λ follow end. (
+    throw_tree b.span lit_tree,
+    to_throw (key 20 ∷ follow) e ∙ rw (word_reads see.Throw b (key 20 ∷ follow) (at_kind see.Throw e see.Throw true refl)) (rw (reads follow end) refl),
+  )
 
   pub begun : (k : Ahead) → sort b ≡ k → begins_expr k ≡ true → Whole x y reads b (word_of k)
   begun see.If e h = whole_if e

@@ -35,19 +35,27 @@ under = mark 0 ∷ []
 
 abbrev pub open_paren : Token
 open_paren = mark 10
+
 abbrev pub close_paren : Token
 close_paren = mark 11
+
 abbrev pub open_bracket : Token
 open_bracket = mark 12
+
 abbrev pub close_bracket : Token
 close_bracket = mark 13
+
 abbrev pub open_brace : Token
 open_brace = mark 14
+
 abbrev pub close_brace : Token
 close_brace = mark 15
+
 abbrev pub comma : Token
 comma = mark 16
+
 abbrev pub semi : Token
 semi = mark 17
+
 abbrev pub dot : Token
 dot = mark 18

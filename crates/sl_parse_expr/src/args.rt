@@ -10,8 +10,8 @@ ghost use Rattle.sl_parse_expr.specs.Rules as spec;
 use crate::ahead::Ahead;
 use crate::cursor::Cursor;
 use crate::grammar::Grammar;
-use crate::stopped::Stopped;
 use crate::spans::join;
+use crate::stopped::Stopped;
 use crate::tokens::expect;
 use sl_ast::{Expr, ParArgs};
 use sl_text::Span;
@@ -68,7 +68,11 @@ impl<F: Fn(Global, &mut Cursor<'_>, usize) -> Result<Expr, Stopped>> Grammar<F> 
     }
 
     #[tactic(auto, unfolding(crate::specs::Rules::more_args))]
-    pub fn more_args(&self, tokens: &mut Cursor<'_>, first: Items<Expr>) -> Result<Items<Expr>, Stopped>
+    pub fn more_args(
+        &self,
+        tokens: &mut Cursor<'_>,
+        first: Items<Expr>,
+    ) -> Result<Items<Expr>, Stopped>
         requires { Nests expr self.now.depth (F.pre self.now.expr) (F.post self.now.expr) }
         ensures { Reads (spec.more_args (expr self.now.depth) (pattern self.now.depth) first tokens.old) result tokens.new }
     {

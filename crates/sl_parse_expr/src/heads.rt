@@ -12,8 +12,8 @@ ghost use Rattle.sl_parse_expr.specs.Rules as spec;
 use crate::ahead::Ahead;
 use crate::cursor::Cursor;
 use crate::grammar::Grammar;
-use crate::stopped::Stopped;
 use crate::spans::{join, par_args_span};
+use crate::stopped::Stopped;
 use crate::tokens::{expect, literal, name};
 use sl_ast::{Expr, Head, ParArgs};
 use sl_text::Span;
@@ -84,7 +84,10 @@ impl<F: Fn(Global, &mut Cursor<'_>, usize) -> Result<Expr, Stopped>> Grammar<F> 
     }
 
     #[tactic(auto, unfolding(crate::specs::Rules::nothing_inside))]
-    pub fn nothing_inside(&self, tokens: &mut Cursor<'_>) -> Result<(Option<Boxed<Expr>>, Span), Stopped>
+    pub fn nothing_inside(
+        &self,
+        tokens: &mut Cursor<'_>,
+    ) -> Result<(Option<Boxed<Expr>>, Span), Stopped>
         requires { Nests expr self.now.depth (F.pre self.now.expr) (F.post self.now.expr) }
         ensures { Reads (spec.nothing_inside (expr self.now.depth) (pattern self.now.depth) tokens.old) result tokens.new }
     {
@@ -93,7 +96,10 @@ impl<F: Fn(Global, &mut Cursor<'_>, usize) -> Result<Expr, Stopped>> Grammar<F> 
     }
 
     #[tactic(auto, unfolding(crate::specs::Rules::expr_inside))]
-    pub fn expr_inside(&self, tokens: &mut Cursor<'_>) -> Result<(Option<Boxed<Expr>>, Span), Stopped>
+    pub fn expr_inside(
+        &self,
+        tokens: &mut Cursor<'_>,
+    ) -> Result<(Option<Boxed<Expr>>, Span), Stopped>
         requires { Nests expr self.now.depth (F.pre self.now.expr) (F.post self.now.expr) }
         ensures { Reads (spec.expr_inside (expr self.now.depth) (pattern self.now.depth) tokens.old) result tokens.new }
     {

@@ -50,7 +50,11 @@ impl<F: Fn(Global, &mut Cursor<'_>, usize) -> Result<Pattern, Stopped>> PatternG
     }
 
     #[tactic(auto, unfolding(crate::specs::PatternRules::more_parts))]
-    pub fn more_parts(&self, tokens: &mut Cursor<'_>, first: Items<Pattern>) -> Result<Items<Pattern>, Stopped>
+    pub fn more_parts(
+        &self,
+        tokens: &mut Cursor<'_>,
+        first: Items<Pattern>,
+    ) -> Result<Items<Pattern>, Stopped>
         requires { Nests pattern self.now.depth (F.pre self.now.pattern) (F.post self.now.pattern) }
         ensures { Reads (spec.more_parts (pattern self.now.depth) first tokens.old) result tokens.new }
     {

@@ -8,12 +8,12 @@ ghost use Rattle.sl_parse_expr.specs.Reading.{Reads};
 ghost use Rattle.sl_parse_expr.specs.Rules as spec;
 
 use crate::ahead::Ahead;
+use crate::chain::Chain;
 use crate::cursor::Cursor;
 use crate::grammar::Grammar;
-use crate::chain::Chain;
-use crate::stopped::Stopped;
-use crate::starts::goes_suffix;
 use crate::spans::{head_span, join, last_suffix};
+use crate::starts::goes_suffix;
+use crate::stopped::Stopped;
 use crate::tokens::{expect, name};
 use sl_ast::{Args, Expr, Simple, Suffix};
 use sqlite_items::Items;
@@ -89,7 +89,11 @@ impl<F: Fn(Global, &mut Cursor<'_>, usize) -> Result<Expr, Stopped>> Grammar<F> 
     }
 
     #[tactic(auto, unfolding(crate::specs::Rules::suffixes))]
-    pub fn suffixes(&self, tokens: &mut Cursor<'_>, all: bool) -> Result<(Chain, Items<Suffix>), Stopped>
+    pub fn suffixes(
+        &self,
+        tokens: &mut Cursor<'_>,
+        all: bool,
+    ) -> Result<(Chain, Items<Suffix>), Stopped>
         requires { Nests expr self.now.depth (F.pre self.now.expr) (F.post self.now.expr) }
         ensures { Reads (spec.suffixes (expr self.now.depth) (pattern self.now.depth) all tokens.old) result tokens.new }
     {

@@ -5,7 +5,10 @@ ghost use Rattle.sl_parse_expr.specs.Spans as spec;
 ghost use Rattle.sl_parse_expr.specs.PatternTrees as patterns;
 ghost use Rattle.sl_parse_expr.specs.Trees as trees;
 
-use sl_ast::{Args, Block, Cases, Expr, Head, Infix, Literal, Operation, ParArgs, Pat, PatS, Prefix, Simple, Stat, Suffix, TypeTree, Wildcard};
+use sl_ast::{
+    Args, Block, Cases, Expr, Head, Infix, Literal, Operation, ParArgs, Pat, PatS, Prefix, Simple,
+    Stat, Suffix, TypeTree, Wildcard,
+};
 use sl_text::Span;
 use sqlite_items::{Boxed, Items};
 
