@@ -6,7 +6,9 @@ ghost use Rattle.sl_parse_expr.specs.declared.stopped.Stopped.TheVariants.{Memor
 ghost use Rattle.sl_parse_expr.specs.Levels.{expr};
 ghost use Rattle.sl_parse_expr.specs.Nests.{Nests};
 ghost use Rattle.sl_parse_expr.specs.PatternRules.{pattern};
-ghost use Rattle.sl_parse_expr.specs.Reading.{Reads};
+ghost use Rattle.sl_parse_expr.specs.Ahead.{same};
+ghost use Rattle.sl_parse_expr.specs.declared.ahead.Ahead.TheVariants as see;
+ghost use Rattle.sl_parse_expr.specs.Reading.{Reads, choose};
 ghost use Rattle.sl_parse_expr.specs.Rules as spec;
 
 use crate::ahead::Ahead;
@@ -143,7 +145,18 @@ impl<F: Fn(Global, &mut Cursor<'_>, usize) -> Result<Expr, Stopped>> Grammar<F> 
             self.name_start(tokens)
         } else if tokens.is_at(Ahead::This) {
             self.this_start(tokens)
-        } else if tokens.is_at(Ahead::Super) {
+        } else {
+            self.later_start(tokens)
+        }
+    }
+
+    // The heads that begin with another word, or in brackets.
+    #[tactic(auto)]
+    pub fn later_start(&self, tokens: &mut Cursor<'_>) -> Result<(Head, bool), Stopped>
+        requires { Nests expr self.now.depth (F.pre self.now.expr) (F.post self.now.expr) }
+        ensures { Reads (choose (same see.Super) (spec.super_start (expr self.now.depth) (pattern self.now.depth)) (choose (same see.New) (spec.new_start (expr self.now.depth) (pattern self.now.depth)) (choose (same see.OpenParen) (spec.parens_start (expr self.now.depth) (pattern self.now.depth)) (spec.block_start (expr self.now.depth) (pattern self.now.depth)))) tokens.old) result tokens.new }
+    {
+        if tokens.is_at(Ahead::Super) {
             self.super_start(tokens)
         } else if tokens.is_at(Ahead::New) {
             self.new_start(tokens)
