@@ -1,15 +1,5 @@
 //! What parts do with a local, put together.
-#![tactic(auto, unfolding(
-    crate::specs::Uses::either_way,
-    crate::specs::Uses::negated,
-    crate::specs::Uses::followed,
-    crate::specs::Uses::chosen,
-    crate::specs::Uses::looped,
-    crate::specs::Uses::tried,
-    crate::specs::Uses::tested,
-    crate::specs::Uses::or_else,
-    crate::specs::Uses::bound
-))]
+#![tactic(auto, unfolding(crate::specs::Uses::either_way, crate::specs::Uses::negated, crate::specs::Uses::followed, crate::specs::Uses::chosen, crate::specs::Uses::looped, crate::specs::Uses::tried, crate::specs::Uses::tested, crate::specs::Uses::or_else, crate::specs::Uses::bound))]
 
 ghost use Rattle.std.specs.Prelude.{◌≡◌, [], ◌∷◌, option_map, option_to_list};
 ghost use Rattle.std.specs.Option.{unwrap_or};

@@ -34,10 +34,10 @@ pub fn conditions()
         ≡ ((expr_passage local c).reads || (not (expr_passage local c).on_true && (expr_passage local a).reads)) }
     ensures if_true { (local : ℕ) (c a b : Expr) → (expr_passage local (expr.If c a b)).on_true
         ≡ (((expr_passage local c).on_true || (expr_passage local a).on_true)
-            && ((expr_passage local c).on_false || (expr_passage local b).on_true)) }
+        && ((expr_passage local c).on_false || (expr_passage local b).on_true)) }
     ensures if_false { (local : ℕ) (c a b : Expr) → (expr_passage local (expr.If c a b)).on_false
         ≡ (((expr_passage local c).on_true || (expr_passage local a).on_false)
-            && ((expr_passage local c).on_false || (expr_passage local b).on_false)) }
+        && ((expr_passage local c).on_false || (expr_passage local b).on_false)) }
     ensures repeated { (local : ℕ) (c b : Expr) → sets (expr_passage local (expr.While c b)) ≡ (expr_passage local c).on_false }
     ensures repeating { (local : ℕ) (c b : Expr) → (expr_passage local c).on_true ≡ true
         → (expr_passage local (expr.While c b)).reads ≡ (expr_passage local c).reads }

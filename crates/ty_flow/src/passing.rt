@@ -9,7 +9,8 @@ ghost use Rattle.ty_flow.specs.Parts.{handler_passage, case_passage, pattern_pas
 
 use crate::joining::{
     LEAVES, NO_CASE, UNTOUCHED, alone, both, bound, chosen, either_way, ended, followed, guarded,
-    literal, looped, none, one_of, operated, or_else, printed, read, stored, tested, three, tried, two,
+    literal, looped, none, one_of, operated, or_else, printed, read, stored, tested, three, tried,
+    two,
 };
 use crate::passage::{CasePassage, Passage};
 use sqlite_items::Boxed;
