@@ -1,11 +1,13 @@
 //! What the definition of ways entails, as laws.
 
-ghost use Rattle.std.specs.Prelude.{◌≡◌, ℕ, true, false, ◌||◌, ◌&&◌, not, [], ◌∷◌, Option, Some};
+ghost use Rattle.std.specs.Prelude.{◌≡◌, ℕ, true, false, ◌||◌, ◌&&◌, not, List, [], ◌∷◌, Option, Some};
 ghost use Rattle.ty_prog.specs.declared.expr.Expr.{Expr};
 ghost use Rattle.ty_prog.specs.declared.expr.Expr.TheVariants as expr;
 ghost use Rattle.ty_prog.specs.declared.prim_op.PrimOp.TheVariants as op;
 ghost use Rattle.ty_prog.specs.declared.catch.Catch.{Catch};
-ghost use Rattle.ty_flow.specs.Uses.{sets, expr_passage};
+ghost use Rattle.ty_flow.specs.declared.passage.Passage.{Passage};
+ghost use Rattle.ty_flow.specs.declared.passage.CasePassage.{CasePassage};
+ghost use Rattle.ty_flow.specs.Uses.{leaves, chosen, tested, first_of, sets, expr_passage};
 ghost use Rattle.ty_flow.specs.Parts.{handler_passage};
 
 /// A `Throw` reads what its part does, and leaves. A store reads what its part does, and sets. What a tree surely sets
@@ -51,4 +53,10 @@ pub fn conditions()
     ensures never { (local : ℕ) → (expr_passage local (expr.Bool false)).on_true ≡ true }
     ensures matched { (local : ℕ) (c v : Expr)
         → (expr_passage local (expr.If c (expr.Block (expr.SetLocal local v ∷ expr.Bool true ∷ [])) (expr.Bool false))).on_true ≡ true }
+{}
+
+/// Cases that are tried in turn are conditionals, each the last branch of the one before; behind them no way ends.
+pub fn cases()
+    ensures first { (test body : Passage) (rest : List CasePassage) → first_of (tested test body ∷ rest) ≡ chosen test body (first_of rest) }
+    ensures none { first_of [] ≡ leaves }
 {}
