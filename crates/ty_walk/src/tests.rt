@@ -54,28 +54,43 @@ fn matching(alloc: Global, throws: bool) -> Result<Expr, AllocError> {
     })
 }
 
-// A program of one class, with a deferred method; the part `at` of it throws: a method's body, a guard, a cell, an
-// argument of the superclass constructor, a statement; or none.
-fn program(alloc: Global, at: u32) -> Result<Program, AllocError> {
+// Methods with these bodies.
+fn methods(alloc: Global, bodies: [Option<Expr>; 3]) -> Result<Items<Method>, AllocError> {
+    let mut methods = Items::new(alloc);
+    for body in bodies {
+        methods.push(Method::new(alloc, Name::from_text(alloc, "m")?, Ty::Any, body))?;
+    }
+    Ok(methods)
+}
+
+// A cell with this initialiser, alone.
+fn cells(alloc: Global, init: Expr) -> Result<Items<Cell>, AllocError> {
+    let mut cells = Items::new(alloc);
+    cells.push(Cell::new(Name::from_text(alloc, "c")?, Ty::Any, init, 0))?;
+    Ok(cells)
+}
+
+// A class with a deferred method; the part `at` of it throws: a method's body, a guard, a cell, an argument of the
+// superclass constructor, a statement; or none.
+fn class(alloc: Global, at: u32) -> Result<Class, AllocError> {
     let mut class = Class::new(alloc, Name::from_text(alloc, "X")?, Kind::Class);
-    for body in [
+    let bodies = [
         None,
         Some(part(alloc, at == 0)?),
         Some(matching(alloc, at == 1)?),
-    ] {
-        class.methods.push(Method::new(alloc, Name::from_text(alloc, "m")?, Ty::Any, body))?;
-    }
-    class.cells.push(Cell::new(
-        Name::from_text(alloc, "c")?,
-        Ty::Any,
-        part(alloc, at == 2)?,
-        0,
-    ))?;
+    ];
+    class.methods = methods(alloc, bodies)?;
+    class.cells = cells(alloc, part(alloc, at == 2)?)?;
     class.super_args.push(part(alloc, at == 3)?)?;
     class.body.push(Expr::Unit)?;
     class.body.push(part(alloc, at == 4)?)?;
+    Ok(class)
+}
+
+// A program of that class alone.
+fn program(alloc: Global, at: u32) -> Result<Program, AllocError> {
     let mut classes = Items::new(alloc);
-    classes.push(class)?;
+    classes.push(class(alloc, at)?)?;
     Ok(Program { classes, main: 0 })
 }
 
