@@ -1,2 +1,5 @@
 pub mod Folds
 pub mod Steps
+pub mod Monotone
+pub mod Copied
+pub mod Laterness

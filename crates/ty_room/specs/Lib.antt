@@ -4,5 +4,6 @@ pub mod Numbers
 pub mod Sizing
 pub mod Ahead
 pub mod Forms
+pub mod NoMore
 -- For proofs only.
 pub mod Capped
