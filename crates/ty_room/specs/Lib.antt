@@ -5,5 +5,6 @@ pub mod Sizing
 pub mod Ahead
 pub mod Forms
 pub mod NoMore
+pub mod Replaced
 -- For proofs only.
 pub mod Capped

@@ -1,0 +1,145 @@
+-- Each row of the tables of what lowerings put in place of forms.
+use Rattle.std.proofs.Common.{◌≡◌, ◌≤◌, ◌+◌, ◌*◌, ℕ, min, Bool, true, false, nat_eq, nat_lt, if◌then◌else◌, List, [], ◌∷◌, Option, Some, None, fold, refl, ap, subst, arith}
+use Rattle.ty_prog.specs.declared.catch.Catch.TheOpen.{Expr-F, Pattern-F}
+use Rattle.ty_room.specs.declared.size.Size.{Size}
+use Rattle.ty_room.specs.declared.numbers.Numbers.{Numbers}
+use Rattle.ty_room.specs.Numbers.{kept_bytes, operation, making}
+use Rattle.ty_room.specs.Sizing.{nothing, beside, merged, together, keeping, node_size, bool_size, choice_size, loop_size, behind, covered, heavier, trying, deciding_size, make_size, case_size, pattern_step}
+use Rattle.ty_room.specs.Forms.{tree_at, always, local, part, joined, first_then, bound}
+use Rattle.ty_room.specs.NoMore.{NoMore}
+use Rattle.ty_room.specs.Replaced.{each, TakesNoMore, Tests, IsTest, ChainFits, of_objects, of_traits, of_lazy_members, of_patterns, cast_part, kept_first, few_made, many_made, one_of, match_end, matching, catching}
+use Rattle.ty_room.proofs.Monotone.{itself, FewerOf, same_numbers, node_no_more}
+
+-- what is put together from some start on is the start and what is put together
+record FromStart (start : Size) (parts : List Size) : Type 0 where
+  value : (fold beside start parts).value ≡ start.value + (fold beside nothing parts).value
+  tries : (fold beside start parts).tries ≡ start.tries + (fold beside nothing parts).tries
+  kept : (fold beside start parts).kept ≡ start.kept + (fold beside nothing parts).kept
+  entries : (fold beside start parts).entries ≡ start.entries + (fold beside nothing parts).entries
+  supers : (fold beside start parts).supers ≡ start.supers + (fold beside nothing parts).supers
+
+next_start : (start part : Size) (parts : List Size) → FromStart (beside start part) parts → FromStart (beside nothing part) parts → FromStart start (part ∷ parts)
+unfolding beside
+next_start start part parts x y = record {
+  value = omega (arith, x.value, y.value);
+  tries = omega (arith, x.tries, y.tries);
+  kept = omega (arith, x.kept, y.kept);
+  entries = omega (arith, x.entries, y.entries);
+  supers = omega (arith, x.supers, y.supers);
+}
+
+from_start : (parts : List Size) (start : Size) → FromStart start parts
+from_start [] start = record { value = omega arith; tries = omega arith; kept = omega arith; entries = omega arith; supers = omega arith }
+from_start (part ∷ parts) start = next_start start part parts (from_start parts (beside start part)) (from_start parts (beside nothing part))
+
+pub objects_replaced : each TakesNoMore of_objects
+unfolding node_size
+objects_replaced = (record { value = omega arith; test = omega arith; fixed = refl; tries = omega arith; kept = refl; entries = omega arith; supers = omega arith }, tt)
+
+-- a call in place of a read or a write of a field
+called_no_more : (n : Numbers) (of : Size) → NoMore (node_size n (merged (beside nothing of) nothing)) (node_size n (beside nothing of))
+called_no_more n of = node_no_more (same_numbers n) (parts of) where
+  parts : (of : Size) → NoMore (merged (beside nothing of) nothing) (beside nothing of)
+  unfolding beside merged
+  parts of = record { value = omega arith; test = omega arith; fixed = refl; tries = omega arith; kept = omega arith; entries = omega arith; supers = omega arith }
+
+stored_no_more : (n : Numbers) (of value : Size) → NoMore (node_size n (merged (beside nothing of) (beside nothing value))) (node_size n (beside (beside nothing of) value))
+stored_no_more n of value = node_no_more (same_numbers n) (parts of value) where
+  parts : (of value : Size) → NoMore (merged (beside nothing of) (beside nothing value)) (beside (beside nothing of) value)
+  unfolding beside merged
+  parts of value = record { value = omega arith; test = omega arith; fixed = refl; tries = omega arith; kept = omega arith; entries = omega arith; supers = omega arith }
+
+-- an operand more in place of the object that no part is
+kept_alike : (none none' : Bool) (all all' : ℕ) → none ≡ none' → all ≡ all' → (if none then 0 else kept_bytes all) ≤ (if none' then 0 else kept_bytes all')
+kept_alike none none' all all' e f = subst (λ n. (if none then 0 else kept_bytes all) ≤ (if n then 0 else kept_bytes all')) e (subst (λ n. (if none then 0 else kept_bytes all) ≤ (if none then 0 else kept_bytes n)) f (omega arith))
+
+-- a call with the object as an operand in place of one by `super`
+by_super : (n : ℕ) (parts args : Size) → n ≤ 6 → parts.value ≡ 1 + args.value → parts.tries ≡ args.tries → parts.kept ≡ 8 + args.kept
+    → parts.entries ≡ args.entries → parts.supers ≡ args.supers → NoMore (node_size (operation n 4) parts) (node_size (making 10 4 1) args)
+unfolding node_size
+by_super n parts args le value tries kept entries supers =
+    let same : keeping (operation n 4) parts ≤ keeping (making 10 4 1) args =
+    kept_alike (nat_eq parts.tries 0) (nat_eq args.tries 0) (parts.kept + 0) (args.kept + 8) (ap (λ t. nat_eq t 0) tries) (omega (arith, kept)) in
+    record {
+      value = omega (arith, same, value, le);
+      test = omega (arith, same, value, le);
+      fixed = refl;
+      tries = omega (arith, tries);
+      kept = refl;
+      entries = omega (arith, entries);
+      supers = omega (arith, supers);
+    }
+
+static_no_more : (args : List Size) → NoMore (tree_at 2 (Expr-F.StaticCall 0 0 (tree_at 2 Expr-F.This ∷ args))) (tree_at 1 (Expr-F.SuperCall 0 [] args))
+static_no_more args = by_super 4 (together (tree_at 2 Expr-F.This ∷ args)) (together args) (omega arith) (value args) (tries args) (kept args) (entries args) (supers args) where
+  value : (args : List Size) → (together (tree_at 2 Expr-F.This ∷ args)).value ≡ 1 + (together args).value
+  unfolding beside node_size
+  value args = omega (arith, (from_start args (beside nothing (tree_at 2 Expr-F.This))).value)
+
+  tries : (args : List Size) → (together (tree_at 2 Expr-F.This ∷ args)).tries ≡ (together args).tries
+  unfolding beside node_size
+  tries args = omega (arith, (from_start args (beside nothing (tree_at 2 Expr-F.This))).tries)
+
+  kept : (args : List Size) → (together (tree_at 2 Expr-F.This ∷ args)).kept ≡ 8 + (together args).kept
+  unfolding beside node_size
+  kept args = omega (arith, (from_start args (beside nothing (tree_at 2 Expr-F.This))).kept)
+
+  entries : (args : List Size) → (together (tree_at 2 Expr-F.This ∷ args)).entries ≡ (together args).entries
+  unfolding beside node_size
+  entries args = omega (arith, (from_start args (beside nothing (tree_at 2 Expr-F.This))).entries)
+
+  supers : (args : List Size) → (together (tree_at 2 Expr-F.This ∷ args)).supers ≡ (together args).supers
+  unfolding beside node_size
+  supers args = omega (arith, (from_start args (beside nothing (tree_at 2 Expr-F.This))).supers)
+
+virtual_no_more : (args : List Size) → NoMore (tree_at 2 (Expr-F.Call (tree_at 2 (Expr-F.Local 0)) 0 0 args)) (tree_at 1 (Expr-F.SuperCall 0 [] args))
+virtual_no_more args = by_super 6 (merged (beside nothing (tree_at 2 (Expr-F.Local 0))) (together args)) (together args) (omega arith) (value (together args)) (tries (together args)) (kept (together args)) (entries (together args)) (supers (together args)) where
+  value : (args : Size) → (merged (beside nothing (tree_at 2 (Expr-F.Local 0))) args).value ≡ 1 + args.value
+  unfolding beside merged node_size
+  value args = omega arith
+
+  tries : (args : Size) → (merged (beside nothing (tree_at 2 (Expr-F.Local 0))) args).tries ≡ args.tries
+  unfolding beside merged node_size
+  tries args = omega arith
+
+  kept : (args : Size) → (merged (beside nothing (tree_at 2 (Expr-F.Local 0))) args).kept ≡ 8 + args.kept
+  unfolding beside merged node_size
+  kept args = omega arith
+
+  entries : (args : Size) → (merged (beside nothing (tree_at 2 (Expr-F.Local 0))) args).entries ≡ args.entries
+  unfolding beside merged node_size
+  entries args = omega arith
+
+  supers : (args : Size) → (merged (beside nothing (tree_at 2 (Expr-F.Local 0))) args).supers ≡ args.supers
+  unfolding beside merged node_size
+  supers args = omega arith
+
+moved_local : (number : ℕ) → NoMore (tree_at 2 (Expr-F.Local (number + 1))) (tree_at 1 (Expr-F.Local number))
+moved_local number = by (nat_eq (number + 1) 0) where
+  by : (first : Bool) → NoMore (node_size (record { bytes = if first then 1 else 4; jump = (if first then 1 else 4) + 3; entries = 0; supers = 0; keeps = false; more = 0 }) nothing) (tree_at 1 (Expr-F.Local number))
+  unfolding node_size
+  by true = record { value = omega arith; test = omega arith; fixed = refl; tries = omega arith; kept = refl; entries = omega arith; supers = omega arith }
+  by false = record { value = omega arith; test = omega arith; fixed = refl; tries = omega arith; kept = refl; entries = omega arith; supers = omega arith }
+
+object_local : NoMore (tree_at 2 (Expr-F.Local 0)) (tree_at 1 Expr-F.This)
+unfolding node_size
+object_local = record { value = omega arith; test = omega arith; fixed = refl; tries = omega arith; kept = refl; entries = omega arith; supers = omega arith }
+
+pub traits_replaced : (number : ℕ) (of value : Size) (args : List Size) → each TakesNoMore (of_traits number of value args)
+traits_replaced number of value args =
+    (object_local, (moved_local number, (called_no_more (operation 6 4) of, (stored_no_more (operation 6 4) of value, (static_no_more args, (virtual_no_more args, tt))))))
+
+pub lazies_replaced : (of : Size) → each TakesNoMore (of_lazy_members of)
+lazies_replaced of = (called_no_more (operation 6 4) of, tt)
+
+pub read_local : (rest : Size) → each (IsTest 0 rest) (of_patterns local rest)
+unfolding beside merged node_size bool_size choice_size loop_size behind covered heavier trying deciding_size make_size
+read_local rest = (record { test = omega arith; tries = omega arith; entries = omega arith; supers = omega arith }, (record { test = omega arith; tries = omega arith; entries = omega arith; supers = omega arith }, (record { test = omega arith; tries = omega arith; entries = omega arith; supers = omega arith }, (record { test = omega arith; tries = omega arith; entries = omega arith; supers = omega arith }, (record { test = omega arith; tries = omega arith; entries = omega arith; supers = omega arith }, (record { test = omega arith; tries = omega arith; entries = omega arith; supers = omega arith }, (record { test = omega arith; tries = omega arith; entries = omega arith; supers = omega arith }, (record { test = omega arith; tries = omega arith; entries = omega arith; supers = omega arith }, (record { test = omega arith; tries = omega arith; entries = omega arith; supers = omega arith }, (record { test = omega arith; tries = omega arith; entries = omega arith; supers = omega arith }, tt))))))))))
+
+pub read_part : (rest : Size) → each (IsTest 0 rest) (of_patterns part rest)
+unfolding beside merged node_size bool_size choice_size loop_size behind covered heavier trying deciding_size make_size
+read_part rest = (record { test = omega arith; tries = omega arith; entries = omega arith; supers = omega arith }, (record { test = omega arith; tries = omega arith; entries = omega arith; supers = omega arith }, (record { test = omega arith; tries = omega arith; entries = omega arith; supers = omega arith }, (record { test = omega arith; tries = omega arith; entries = omega arith; supers = omega arith }, (record { test = omega arith; tries = omega arith; entries = omega arith; supers = omega arith }, (record { test = omega arith; tries = omega arith; entries = omega arith; supers = omega arith }, (record { test = omega arith; tries = omega arith; entries = omega arith; supers = omega arith }, (record { test = omega arith; tries = omega arith; entries = omega arith; supers = omega arith }, (record { test = omega arith; tries = omega arith; entries = omega arith; supers = omega arith }, (record { test = omega arith; tries = omega arith; entries = omega arith; supers = omega arith }, tt))))))))))
+
+pub read_cast : (rest : Size) → each (IsTest 3 rest) (of_patterns cast_part rest)
+unfolding beside merged node_size bool_size choice_size loop_size behind covered heavier trying deciding_size make_size
+read_cast rest = (record { test = omega arith; tries = omega arith; entries = omega arith; supers = omega arith }, (record { test = omega arith; tries = omega arith; entries = omega arith; supers = omega arith }, (record { test = omega arith; tries = omega arith; entries = omega arith; supers = omega arith }, (record { test = omega arith; tries = omega arith; entries = omega arith; supers = omega arith }, (record { test = omega arith; tries = omega arith; entries = omega arith; supers = omega arith }, (record { test = omega arith; tries = omega arith; entries = omega arith; supers = omega arith }, (record { test = omega arith; tries = omega arith; entries = omega arith; supers = omega arith }, (record { test = omega arith; tries = omega arith; entries = omega arith; supers = omega arith }, (record { test = omega arith; tries = omega arith; entries = omega arith; supers = omega arith }, (record { test = omega arith; tries = omega arith; entries = omega arith; supers = omega arith }, tt))))))))))
