@@ -36,18 +36,21 @@ pub objects_replaced : each TakesNoMore of_objects
 unfolding node_size
 objects_replaced = (record { value = omega arith; test = omega arith; fixed = refl; tries = omega arith; kept = refl; entries = omega arith; supers = omega arith }, tt)
 
+-- the parts of a call in place of a read or a write of a field
+called_parts : (of : Size) → NoMore (merged (beside nothing of) nothing) (beside nothing of)
+unfolding beside merged
+called_parts of = record { value = omega arith; test = omega arith; fixed = refl; tries = omega arith; kept = omega arith; entries = omega arith; supers = omega arith }
+
+stored_parts : (of value : Size) → NoMore (merged (beside nothing of) (beside nothing value)) (beside (beside nothing of) value)
+unfolding beside merged
+stored_parts of value = record { value = omega arith; test = omega arith; fixed = refl; tries = omega arith; kept = omega arith; entries = omega arith; supers = omega arith }
+
 -- a call in place of a read or a write of a field
 called_no_more : (n : Numbers) (of : Size) → NoMore (node_size n (merged (beside nothing of) nothing)) (node_size n (beside nothing of))
-called_no_more n of = node_no_more (same_numbers n) (parts of) where
-  parts : (of : Size) → NoMore (merged (beside nothing of) nothing) (beside nothing of)
-  unfolding beside merged
-  parts of = record { value = omega arith; test = omega arith; fixed = refl; tries = omega arith; kept = omega arith; entries = omega arith; supers = omega arith }
+called_no_more n of = node_no_more (same_numbers n) (called_parts of)
 
 stored_no_more : (n : Numbers) (of value : Size) → NoMore (node_size n (merged (beside nothing of) (beside nothing value))) (node_size n (beside (beside nothing of) value))
-stored_no_more n of value = node_no_more (same_numbers n) (parts of value) where
-  parts : (of value : Size) → NoMore (merged (beside nothing of) (beside nothing value)) (beside (beside nothing of) value)
-  unfolding beside merged
-  parts of value = record { value = omega arith; test = omega arith; fixed = refl; tries = omega arith; kept = omega arith; entries = omega arith; supers = omega arith }
+stored_no_more n of value = node_no_more (same_numbers n) (stored_parts of value)
 
 -- an operand more in place of the object that no part is
 kept_alike : (none none' : Bool) (all all' : ℕ) → none ≡ none' → all ≡ all' → (if none then 0 else kept_bytes all) ≤ (if none' then 0 else kept_bytes all')
@@ -70,56 +73,59 @@ by_super n parts args le value tries kept entries supers =
       supers = omega (arith, supers);
     }
 
+static_value : (args : List Size) → (together (tree_at 2 Expr-F.This ∷ args)).value ≡ 1 + (together args).value
+unfolding beside node_size
+static_value args = omega (arith, (from_start args (beside nothing (tree_at 2 Expr-F.This))).value)
+
+static_tries : (args : List Size) → (together (tree_at 2 Expr-F.This ∷ args)).tries ≡ (together args).tries
+unfolding beside node_size
+static_tries args = omega (arith, (from_start args (beside nothing (tree_at 2 Expr-F.This))).tries)
+
+static_kept : (args : List Size) → (together (tree_at 2 Expr-F.This ∷ args)).kept ≡ 8 + (together args).kept
+unfolding beside node_size
+static_kept args = omega (arith, (from_start args (beside nothing (tree_at 2 Expr-F.This))).kept)
+
+static_entries : (args : List Size) → (together (tree_at 2 Expr-F.This ∷ args)).entries ≡ (together args).entries
+unfolding beside node_size
+static_entries args = omega (arith, (from_start args (beside nothing (tree_at 2 Expr-F.This))).entries)
+
+static_supers : (args : List Size) → (together (tree_at 2 Expr-F.This ∷ args)).supers ≡ (together args).supers
+unfolding beside node_size
+static_supers args = omega (arith, (from_start args (beside nothing (tree_at 2 Expr-F.This))).supers)
+
 static_no_more : (args : List Size) → NoMore (tree_at 2 (Expr-F.StaticCall 0 0 (tree_at 2 Expr-F.This ∷ args))) (tree_at 1 (Expr-F.SuperCall 0 [] args))
-static_no_more args = by_super 4 (together (tree_at 2 Expr-F.This ∷ args)) (together args) (omega arith) (value args) (tries args) (kept args) (entries args) (supers args) where
-  value : (args : List Size) → (together (tree_at 2 Expr-F.This ∷ args)).value ≡ 1 + (together args).value
-  unfolding beside node_size
-  value args = omega (arith, (from_start args (beside nothing (tree_at 2 Expr-F.This))).value)
+static_no_more args = by_super 4 (together (tree_at 2 Expr-F.This ∷ args)) (together args) (omega arith) (static_value args) (static_tries args) (static_kept args) (static_entries args) (static_supers args)
 
-  tries : (args : List Size) → (together (tree_at 2 Expr-F.This ∷ args)).tries ≡ (together args).tries
-  unfolding beside node_size
-  tries args = omega (arith, (from_start args (beside nothing (tree_at 2 Expr-F.This))).tries)
+virtual_value : (args : Size) → (merged (beside nothing (tree_at 2 (Expr-F.Local 0))) args).value ≡ 1 + args.value
+unfolding beside merged node_size
+virtual_value args = omega arith
 
-  kept : (args : List Size) → (together (tree_at 2 Expr-F.This ∷ args)).kept ≡ 8 + (together args).kept
-  unfolding beside node_size
-  kept args = omega (arith, (from_start args (beside nothing (tree_at 2 Expr-F.This))).kept)
+virtual_tries : (args : Size) → (merged (beside nothing (tree_at 2 (Expr-F.Local 0))) args).tries ≡ args.tries
+unfolding beside merged node_size
+virtual_tries args = omega arith
 
-  entries : (args : List Size) → (together (tree_at 2 Expr-F.This ∷ args)).entries ≡ (together args).entries
-  unfolding beside node_size
-  entries args = omega (arith, (from_start args (beside nothing (tree_at 2 Expr-F.This))).entries)
+virtual_kept : (args : Size) → (merged (beside nothing (tree_at 2 (Expr-F.Local 0))) args).kept ≡ 8 + args.kept
+unfolding beside merged node_size
+virtual_kept args = omega arith
 
-  supers : (args : List Size) → (together (tree_at 2 Expr-F.This ∷ args)).supers ≡ (together args).supers
-  unfolding beside node_size
-  supers args = omega (arith, (from_start args (beside nothing (tree_at 2 Expr-F.This))).supers)
+virtual_entries : (args : Size) → (merged (beside nothing (tree_at 2 (Expr-F.Local 0))) args).entries ≡ args.entries
+unfolding beside merged node_size
+virtual_entries args = omega arith
+
+virtual_supers : (args : Size) → (merged (beside nothing (tree_at 2 (Expr-F.Local 0))) args).supers ≡ args.supers
+unfolding beside merged node_size
+virtual_supers args = omega arith
 
 virtual_no_more : (args : List Size) → NoMore (tree_at 2 (Expr-F.Call (tree_at 2 (Expr-F.Local 0)) 0 0 args)) (tree_at 1 (Expr-F.SuperCall 0 [] args))
-virtual_no_more args = by_super 6 (merged (beside nothing (tree_at 2 (Expr-F.Local 0))) (together args)) (together args) (omega arith) (value (together args)) (tries (together args)) (kept (together args)) (entries (together args)) (supers (together args)) where
-  value : (args : Size) → (merged (beside nothing (tree_at 2 (Expr-F.Local 0))) args).value ≡ 1 + args.value
-  unfolding beside merged node_size
-  value args = omega arith
+virtual_no_more args = by_super 6 (merged (beside nothing (tree_at 2 (Expr-F.Local 0))) (together args)) (together args) (omega arith) (virtual_value (together args)) (virtual_tries (together args)) (virtual_kept (together args)) (virtual_entries (together args)) (virtual_supers (together args))
 
-  tries : (args : Size) → (merged (beside nothing (tree_at 2 (Expr-F.Local 0))) args).tries ≡ args.tries
-  unfolding beside merged node_size
-  tries args = omega arith
-
-  kept : (args : Size) → (merged (beside nothing (tree_at 2 (Expr-F.Local 0))) args).kept ≡ 8 + args.kept
-  unfolding beside merged node_size
-  kept args = omega arith
-
-  entries : (args : Size) → (merged (beside nothing (tree_at 2 (Expr-F.Local 0))) args).entries ≡ args.entries
-  unfolding beside merged node_size
-  entries args = omega arith
-
-  supers : (args : Size) → (merged (beside nothing (tree_at 2 (Expr-F.Local 0))) args).supers ≡ args.supers
-  unfolding beside merged node_size
-  supers args = omega arith
+moved_by : (number : ℕ) (first : Bool) → NoMore (node_size (record { bytes = if first then 1 else 4; jump = (if first then 1 else 4) + 3; entries = 0; supers = 0; keeps = false; more = 0 }) nothing) (tree_at 1 (Expr-F.Local number))
+unfolding node_size
+moved_by number true = record { value = omega arith; test = omega arith; fixed = refl; tries = omega arith; kept = refl; entries = omega arith; supers = omega arith }
+moved_by number false = record { value = omega arith; test = omega arith; fixed = refl; tries = omega arith; kept = refl; entries = omega arith; supers = omega arith }
 
 moved_local : (number : ℕ) → NoMore (tree_at 2 (Expr-F.Local (number + 1))) (tree_at 1 (Expr-F.Local number))
-moved_local number = by (nat_eq (number + 1) 0) where
-  by : (first : Bool) → NoMore (node_size (record { bytes = if first then 1 else 4; jump = (if first then 1 else 4) + 3; entries = 0; supers = 0; keeps = false; more = 0 }) nothing) (tree_at 1 (Expr-F.Local number))
-  unfolding node_size
-  by true = record { value = omega arith; test = omega arith; fixed = refl; tries = omega arith; kept = refl; entries = omega arith; supers = omega arith }
-  by false = record { value = omega arith; test = omega arith; fixed = refl; tries = omega arith; kept = refl; entries = omega arith; supers = omega arith }
+moved_local number = moved_by number (nat_eq (number + 1) 0)
 
 object_local : NoMore (tree_at 2 (Expr-F.Local 0)) (tree_at 1 Expr-F.This)
 unfolding node_size
