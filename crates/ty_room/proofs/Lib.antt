@@ -6,3 +6,4 @@ pub mod Laterness
 pub mod Twice
 pub mod Whole
 pub mod Rows
+pub mod Matching

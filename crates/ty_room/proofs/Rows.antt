@@ -11,12 +11,12 @@ use Rattle.ty_room.specs.Replaced.{each, TakesNoMore, Tests, IsTest, ChainFits, 
 use Rattle.ty_room.proofs.Monotone.{itself, FewerOf, same_numbers, node_no_more}
 
 -- what is put together from some start on is the start and what is put together
-record FromStart (start : Size) (parts : List Size) : Type 0 where
-  value : (fold beside start parts).value ≡ start.value + (fold beside nothing parts).value
-  tries : (fold beside start parts).tries ≡ start.tries + (fold beside nothing parts).tries
-  kept : (fold beside start parts).kept ≡ start.kept + (fold beside nothing parts).kept
-  entries : (fold beside start parts).entries ≡ start.entries + (fold beside nothing parts).entries
-  supers : (fold beside start parts).supers ≡ start.supers + (fold beside nothing parts).supers
+pub record FromStart (start : Size) (parts : List Size) : Type 0 where
+  pub value : (fold beside start parts).value ≡ start.value + (fold beside nothing parts).value
+  pub tries : (fold beside start parts).tries ≡ start.tries + (fold beside nothing parts).tries
+  pub kept : (fold beside start parts).kept ≡ start.kept + (fold beside nothing parts).kept
+  pub entries : (fold beside start parts).entries ≡ start.entries + (fold beside nothing parts).entries
+  pub supers : (fold beside start parts).supers ≡ start.supers + (fold beside nothing parts).supers
 
 next_start : (start part : Size) (parts : List Size) → FromStart (beside start part) parts → FromStart (beside nothing part) parts → FromStart start (part ∷ parts)
 unfolding beside
@@ -28,7 +28,7 @@ next_start start part parts x y = record {
   supers = omega (arith, x.supers, y.supers);
 }
 
-from_start : (parts : List Size) (start : Size) → FromStart start parts
+pub from_start : (parts : List Size) (start : Size) → FromStart start parts
 from_start [] start = record { value = omega arith; tries = omega arith; kept = omega arith; entries = omega arith; supers = omega arith }
 from_start (part ∷ parts) start = next_start start part parts (from_start parts (beside start part)) (from_start parts (beside nothing part))
 

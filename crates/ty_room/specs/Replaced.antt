@@ -1,6 +1,6 @@
 -- What each lowering puts in place of a form, over parts of every size, side by side with the form. Trees are given by
 -- their sizes, as in Forms; a pass builds the same trees with these parts.
-use Rattle.std.specs.Prelude.{ℕ, ◌+◌, ◌*◌, ◌≤◌, ◌≡◌, List, [], ◌∷◌, Some, None, pos}
+use Rattle.std.specs.Prelude.{ℕ, ◌+◌, ◌*◌, ◌≤◌, ◌≡◌, List, [], ◌∷◌, Option, Some, None, pos}
 use Rattle.ty_prog.specs.declared.catch.Catch.TheOpen.{Expr-F, Pattern-F}
 use Rattle.ty_prog.specs.declared.prim_op.PrimOp.TheVariants as op
 use Rattle.ty_prog.specs.declared.ty.Ty.TheVariants as ty
@@ -57,6 +57,13 @@ pub record Tests (read : ℕ) (made pattern rest : Size) : Type 0 where
 abbrev pub IsTest : ℕ → Size → Replaced → Type 0
 IsTest read rest row = Tests read row.low row.high rest
 
+-- a value that a pattern looks at: a local, or a part, with what it takes more to read it
+pub record Reads (read : ℕ) (value : Size) : Type 0 where
+  pub bytes : value.value ≤ 7 + read
+  pub tries : value.tries ≡ 0
+  pub entries : value.entries ≤ 3
+  pub supers : value.supers ≡ 0
+
 -- a part that is read through a conversion
 abbrev pub cast_part : Size
 cast_part = tree_at 3 (Expr-F.Get (cast local) 0 0)
@@ -109,8 +116,8 @@ abbrev pub matching : Size → Size → Size
 matching value chain = first_then (kept_in_local value) chain
 
 -- a handler that finds every exception in a local, of which its cases have become tests in turn
-abbrev pub catching : Size → Size → Size
-catching body chain = heavier 1 (tree_at 3 (Expr-F.Try body (Some (beside nothing chain)) None))
+abbrev pub catching : Size → Size → Option Size → Size
+catching body chain last = heavier 1 (tree_at 3 (Expr-F.Try body (Some (beside nothing chain)) last))
 
 -- cases in turn, with so many bytes and entries at their end, take no more than the cases
 pub record ChainFits (end end_entries : ℕ) (chain cases : Size) : Type 0 where

@@ -1,6 +1,6 @@
 //! What the numbers of forms entail, as laws.
 
-ghost use Rattle.std.specs.Prelude.{IsTrue, ℕ, ◌≤◌, List};
+ghost use Rattle.std.specs.Prelude.{IsTrue, ℕ, ◌≤◌, ◌+◌, List, [], ◌∷◌, Option, Some, None};
 ghost use Rattle.ty_prog.specs.declared.catch.Catch.TheOpen.{Expr-F, Catch-F, Pattern-F, Case-F};
 ghost use Rattle.ty_prog.specs.declared.expr.Expr.{Expr};
 ghost use Rattle.ty_prog.specs.declared.case.Case.{Case};
@@ -8,9 +8,9 @@ ghost use Rattle.ty_prog.specs.declared.pattern.Pattern.{Pattern};
 ghost use Rattle.ty_prog.specs.declared.catch.Catch.{Catch};
 ghost use Rattle.ty_room.specs.declared.size.Size.{Size};
 ghost use Rattle.ty_room.specs.Ahead.{ahead_of};
-ghost use Rattle.ty_room.specs.Sizing.{expr_step, handler_step, pattern_step, case_step, expr_size, case_sizes};
-ghost use Rattle.ty_room.specs.Forms.{forms_fit, lowerings_fit, local, part};
-ghost use Rattle.ty_room.specs.Replaced.{each, TakesNoMore, IsTest, of_objects, of_traits, of_lazy_members, of_patterns, cast_part};
+ghost use Rattle.ty_room.specs.Sizing.{nothing, together, make_size, case_size, expr_step, handler_step, pattern_step, case_step, expr_size, case_sizes};
+ghost use Rattle.ty_room.specs.Forms.{forms_fit, lowerings_fit, local, part, always, joined, bound, tree_at};
+ghost use Rattle.ty_room.specs.Replaced.{each, TakesNoMore, IsTest, Reads, Tests, ChainFits, kept_first, few_made, many_made, one_of, match_end, matching, catching, of_objects, of_traits, of_lazy_members, of_patterns, cast_part};
 ghost use Rattle.ty_room.specs.NoMore.{NoMore, MakesNoMore, Part, low_expr, high_expr, low_handler, high_handler, low_pattern, high_pattern, low_case, high_case};
 
 /// Each form of source stands for a tree that takes at most 31 bytes and brings at most 5 entries for each of its nodes;
@@ -55,4 +55,35 @@ pub fn testing()
     ensures of_local { (rest : Size) → each (IsTest 0 rest) (of_patterns local rest) }
     ensures of_part { (rest : Size) → each (IsTest 0 rest) (of_patterns part rest) }
     ensures of_cast_part { (rest : Size) → each (IsTest 3 rest) (of_patterns cast_part rest) }
+{}
+
+/// What the lowering of matching puts in place of a pattern with parts, of a case, of a match and of a handler with cases,
+/// over what stands for their parts.
+pub fn matching()
+    ensures named { (read : ℕ) (value inner pattern rest : Size) → Reads read value → Tests 0 inner pattern (bound local rest)
+        → Tests read (kept_first value inner) (pattern_step (Pattern-F.Bind 0 pattern)) rest }
+    ensures no_parts { (rest : Size) → Tests 0 rest (together []) rest }
+    ensures one_part_more { (a b : ℕ) (made inner rest pattern : Size) (patterns : List Size) → Tests a made pattern inner
+        → Tests b inner (together patterns) rest → Tests (a + b) made (together (pattern ∷ patterns)) rest }
+    ensures few_parts { (read more : ℕ) (value chain parts rest : Size) → Reads read value → Tests more chain parts rest
+        → parts.value + more ≤ parts.test → more ≤ 14 → Tests read (few_made value chain) (make_size parts) rest }
+    ensures many_parts { (read : ℕ) (value chain parts rest : Size) → Reads read value → Tests 0 chain parts rest
+        → parts.value + 14 ≤ parts.test → Tests read (many_made value chain) (make_size parts) rest }
+    ensures alternatives { (read : ℕ) (value tests rest : Size) (patterns : List Size) → Reads read value
+        → Tests 0 tests (together patterns) nothing
+        → Tests read (kept_first value (joined tests rest)) (pattern_step (Pattern-F.Either patterns)) rest }
+    ensures one_pattern_more { (test others pattern : Size) (patterns : List Size) → Tests 0 test pattern nothing
+        → test.test + 3 ≤ pattern.value → Tests 0 others (together patterns) nothing
+        → Tests 0 (one_of test others) (together (pattern ∷ patterns)) nothing }
+    ensures match_ends { ChainFits 19 3 match_end (together []) }
+    ensures guarded_case { (end more : ℕ) (test pattern guard body next : Size) (cases : List Size) → Tests 0 test pattern guard
+        → body.test ≤ body.value + 3 → ChainFits end more next (together cases)
+        → ChainFits end more (tree_at 3 (Expr-F.If test body next)) (together (case_size pattern (Some guard) body ∷ cases)) }
+    ensures plain_case { (end more : ℕ) (test pattern body next : Size) (cases : List Size) → Tests 0 test pattern always
+        → body.test ≤ body.value + 3 → ChainFits end more next (together cases)
+        → ChainFits end more (tree_at 3 (Expr-F.If test body next)) (together (case_size pattern None body ∷ cases)) }
+    ensures matched { (value chain : Size) (cases : List Size) → ChainFits 19 3 chain (together cases)
+        → NoMore (matching value chain) (tree_at 2 (Expr-F.Match value cases)) }
+    ensures caught { (body chain cases : Size) (last : Option Size) → ChainFits 5 0 chain cases
+        → NoMore (catching body chain last) (tree_at 2 (Expr-F.Try body (Some cases) last)) }
 {}
