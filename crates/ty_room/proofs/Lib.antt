@@ -7,3 +7,4 @@ pub mod Twice
 pub mod Whole
 pub mod Rows
 pub mod Matching
+pub mod Sources

@@ -82,7 +82,7 @@ pub match_ends : ChainFits 19 3 match_end (together [])
 unfolding beside merged node_size bool_size choice_size loop_size behind covered heavier trying deciding_size make_size
 match_ends = record { value = omega arith; test = omega arith; tries = omega arith; entries = omega arith; supers = omega arith }
 
-decided : (n : ℕ) (c a b : Size) (f g : Option Bool) → n ≡ c.test + a.value + b.value + 3 → a.test ≤ a.value + 3 → b.test ≤ b.value + 3 → choice_test n c a b f g ≤ n + 3
+pub decided : (n : ℕ) (c a b : Size) (f g : Option Bool) → n ≡ c.test + a.value + b.value + 3 → a.test ≤ a.value + 3 → b.test ≤ b.value + 3 → choice_test n c a b f g ≤ n + 3
 decided n c a b f (Some false) e h k = omega (arith, e, h)
 decided n c a b (Some true) (Some true) e h k = omega (arith, e, k)
 decided n c a b (Some true) None e h k = omega (arith, e, k)

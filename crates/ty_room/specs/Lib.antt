@@ -6,5 +6,6 @@ pub mod Ahead
 pub mod Forms
 pub mod NoMore
 pub mod Replaced
+pub mod Source
 -- For proofs only.
 pub mod Capped

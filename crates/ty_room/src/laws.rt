@@ -1,15 +1,18 @@
 //! What the numbers of forms entail, as laws.
 
-ghost use Rattle.std.specs.Prelude.{IsTrue, ℕ, ◌≤◌, ◌+◌, List, [], ◌∷◌, Option, Some, None};
+ghost use Rattle.std.specs.Prelude.{IsTrue, ℕ, ◌≤◌, ◌+◌, ◌*◌, List, [], ◌∷◌, Option, Some, None};
 ghost use Rattle.ty_prog.specs.declared.catch.Catch.TheOpen.{Expr-F, Catch-F, Pattern-F, Case-F};
+ghost use Rattle.ty_prog.specs.declared.prim_op.PrimOp.{PrimOp};
 ghost use Rattle.ty_prog.specs.declared.expr.Expr.{Expr};
 ghost use Rattle.ty_prog.specs.declared.case.Case.{Case};
 ghost use Rattle.ty_prog.specs.declared.pattern.Pattern.{Pattern};
 ghost use Rattle.ty_prog.specs.declared.catch.Catch.{Catch};
 ghost use Rattle.ty_room.specs.declared.size.Size.{Size};
 ghost use Rattle.ty_room.specs.Ahead.{ahead_of};
-ghost use Rattle.ty_room.specs.Sizing.{nothing, together, make_size, case_size, expr_step, handler_step, pattern_step, case_step, expr_size, case_sizes};
-ghost use Rattle.ty_room.specs.Forms.{forms_fit, lowerings_fit, local, part, always, joined, bound, tree_at};
+ghost use Rattle.ty_room.specs.Sizing.{nothing, beside, together, node_size, make_size, case_size, expr_step, handler_step, pattern_step, case_step, expr_size, case_sizes};
+ghost use Rattle.ty_room.specs.Forms.{forms_fit, lowerings_fit, local, part, always, joined, bound, tree_at, tree, this, boxed, called, applied, joined_texts};
+ghost use Rattle.ty_room.specs.Numbers.{form};
+ghost use Rattle.ty_room.specs.Source.{all_nodes, ExprWorth, AllWorth, text_added};
 ghost use Rattle.ty_room.specs.Replaced.{each, TakesNoMore, IsTest, Reads, Tests, ChainFits, kept_first, few_made, many_made, one_of, match_end, matching, catching, of_objects, of_traits, of_lazy_members, of_patterns, cast_part};
 ghost use Rattle.ty_room.specs.NoMore.{NoMore, MakesNoMore, Part, low_expr, high_expr, low_handler, high_handler, low_pattern, high_pattern, low_case, high_case};
 
@@ -86,4 +89,31 @@ pub fn matching()
         → NoMore (matching value chain) (tree_at 2 (Expr-F.Match value cases)) }
     ensures caught { (body chain cases : Size) (last : Option Size) → ChainFits 5 0 chain cases
         → NoMore (catching body chain last) (tree_at 2 (Expr-F.Try body (Some cases) last)) }
+{}
+
+/// A form of source over parts of every size, and lists of them of every length, takes at most 31 bytes and fewer than 5
+/// entries for each of its nodes where its parts do.
+pub fn sources()
+    ensures more_nodes { (n m : ℕ) (size : Size) → n ≤ m → ExprWorth n size → ExprWorth m size }
+    ensures call { (n : ℕ) (of : Size) (ns : List ℕ) (args : List Size) → ExprWorth n of → AllWorth ExprWorth ns args
+        → ExprWorth (n + all_nodes ns + 1) (boxed (called of args)) }
+    ensures own_call { (ns : List ℕ) (args : List Size) → AllWorth ExprWorth ns args
+        → ExprWorth (all_nodes ns + 2) (boxed (called this args)) }
+    ensures super_call { (ns : List ℕ) (args : List Size) → AllWorth ExprWorth ns args
+        → ExprWorth (all_nodes ns + 2) (boxed (tree (Expr-F.SuperCall 0 [] args))) }
+    ensures made { (ns : List ℕ) (args : List Size) → AllWorth ExprWorth ns args → ExprWorth (all_nodes ns + 1) (applied args) }
+    ensures operation { (o : PrimOp) (ns : List ℕ) (args : List Size) → AllWorth ExprWorth ns args
+        → ExprWorth (all_nodes ns + 1) (boxed (tree (Expr-F.Prim o args))) }
+    ensures choice { (n m l : ℕ) (c a b : Size) → ExprWorth n c → ExprWorth m a → ExprWorth l b
+        → ExprWorth (n + m + l + 1) (boxed (tree (Expr-F.If c a b))) }
+    ensures equal { (n m : ℕ) (a b : Size) → ExprWorth n a → ExprWorth m b
+        → ExprWorth (n + m + 1) (boxed (tree (Expr-F.Equal a b))) }
+    ensures texts { (n m : ℕ) (a b : Size) → ExprWorth n a → ExprWorth m b → ExprWorth (n + m + 1) (joined_texts a b) }
+    ensures text_added { (n : ℕ) (e : Size) → ExprWorth n e → ExprWorth (n + 2) (text_added e) }
+    ensures with_one { (bytes own n : ℕ) (of : Size) → bytes + 4 ≤ 31 * own → 1 ≤ own → ExprWorth n of
+        → ExprWorth (n + own) (boxed (node_size (form bytes 0) (beside nothing of))) }
+    ensures block { (n : ℕ) (e : Size) (ns : List ℕ) (es : List Size) → ExprWorth n e → AllWorth ExprWorth ns es
+        → ExprWorth (n + all_nodes ns + 1) (tree (Expr-F.Block (e ∷ es))) }
+    ensures repeated { (n m : ℕ) (c b : Size) → ExprWorth n c → ExprWorth m b
+        → ExprWorth (n + m + 1) (boxed (tree (Expr-F.While c b))) }
 {}
