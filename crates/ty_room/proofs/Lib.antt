@@ -6,5 +6,7 @@ pub mod Laterness
 pub mod Twice
 pub mod Whole
 pub mod Rows
-pub mod Matching
-pub mod Sources
+pub mod Chains
+pub mod FormsWorth
+pub mod BranchesWorth
+pub mod Within

@@ -7,5 +7,7 @@ pub mod Forms
 pub mod NoMore
 pub mod Replaced
 pub mod Source
+pub mod Members
+pub mod Limits
 -- For proofs only.
 pub mod Capped

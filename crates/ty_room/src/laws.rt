@@ -12,7 +12,7 @@ ghost use Rattle.ty_room.specs.Ahead.{ahead_of};
 ghost use Rattle.ty_room.specs.Sizing.{nothing, beside, together, node_size, make_size, case_size, expr_step, handler_step, pattern_step, case_step, expr_size, case_sizes};
 ghost use Rattle.ty_room.specs.Forms.{forms_fit, lowerings_fit, local, part, always, joined, bound, tree_at, tree, this, boxed, called, applied, joined_texts};
 ghost use Rattle.ty_room.specs.Numbers.{form};
-ghost use Rattle.ty_room.specs.Source.{all_nodes, ExprWorth, AllWorth, text_added};
+ghost use Rattle.ty_room.specs.Source.{all_nodes, ExprWorth, CaseWorth, PatternWorth, AllWorth, text_added};
 ghost use Rattle.ty_room.specs.Replaced.{each, TakesNoMore, IsTest, Reads, Tests, ChainFits, kept_first, few_made, many_made, one_of, match_end, matching, catching, of_objects, of_traits, of_lazy_members, of_patterns, cast_part};
 ghost use Rattle.ty_room.specs.NoMore.{NoMore, MakesNoMore, Part, low_expr, high_expr, low_handler, high_handler, low_pattern, high_pattern, low_case, high_case};
 
@@ -116,4 +116,26 @@ pub fn sources()
         → ExprWorth (n + all_nodes ns + 1) (tree (Expr-F.Block (e ∷ es))) }
     ensures repeated { (n m : ℕ) (c b : Size) → ExprWorth n c → ExprWorth m b
         → ExprWorth (n + m + 1) (boxed (tree (Expr-F.While c b))) }
+{}
+
+/// The same of cases, patterns, matches and handlers.
+pub fn branches()
+    ensures guarded_case { (n m l : ℕ) (p g b : Size) → PatternWorth n p → ExprWorth m g → ExprWorth l b
+        → CaseWorth (n + m + l + 1) (case_size p (Some g) b) }
+    ensures plain_case { (n l : ℕ) (p b : Size) → PatternWorth n p → ExprWorth l b → CaseWorth (n + l + 1) (case_size p None b) }
+    ensures named { (n : ℕ) (p : Size) → PatternWorth n p → PatternWorth (n + 1) (pattern_step (Pattern-F.Bind 0 p)) }
+    ensures alternatives { (ns : List ℕ) (parts : List Size) → AllWorth PatternWorth ns parts
+        → PatternWorth (all_nodes ns + 1) (pattern_step (Pattern-F.Either parts)) }
+    ensures made { (ns : List ℕ) (parts : List Size) → AllWorth PatternWorth ns parts
+        → PatternWorth (all_nodes ns + 1) (pattern_step (Pattern-F.Make 0 parts)) }
+    ensures matched { (n : ℕ) (of : Size) (ns : List ℕ) (cases : List Size) → ExprWorth n of → AllWorth CaseWorth ns cases
+        → ExprWorth (n + all_nodes ns + 1) (tree (Expr-F.Match of cases)) }
+    ensures tried { (n : ℕ) (body : Size) → ExprWorth n body → ExprWorth (n + 1) (tree (Expr-F.Try body None None)) }
+    ensures finished { (n m : ℕ) (body last : Size) → ExprWorth n body → ExprWorth m last
+        → ExprWorth (n + m + 1) (tree (Expr-F.Try body None (Some last))) }
+    ensures caught { (n : ℕ) (body : Size) (ns : List ℕ) (cases : List Size) → ExprWorth n body → AllWorth CaseWorth ns cases
+        → ExprWorth (n + all_nodes ns + 1) (tree (Expr-F.Try body (Some (together cases)) None)) }
+    ensures caught_and_finished { (n l m : ℕ) (body case last : Size) (ns : List ℕ) (cases : List Size) → ExprWorth n body
+        → CaseWorth l case → AllWorth CaseWorth ns cases → ExprWorth m last
+        → ExprWorth (n + (l + all_nodes ns) + m + 1) (tree (Expr-F.Try body (Some (together (case ∷ cases))) (Some last))) }
 {}

@@ -1,5 +1,5 @@
 use Rattle.ty_room.specs.Sizing.{together}
-use Rattle.ty_room.proofs.Matching.{named, no_parts, one_part_more, few_parts, many_parts, one_pattern_more, match_ends, guarded_case, plain_case, matched, caught, alternatives}
+use Rattle.ty_room.proofs.Chains.{named, no_parts, one_part_more, few_parts, many_parts, one_pattern_more, match_ends, guarded_case, plain_case, matched, caught, alternatives}
 use Rattle.ty_room.proofs.laws.matching.Goals as goal
 
 pub returns-clause-named : goal.returns-clause-named

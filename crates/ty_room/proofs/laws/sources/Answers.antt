@@ -1,4 +1,4 @@
-use Rattle.ty_room.proofs.Sources.{an_equal, some_texts, a_text_added, with_one, a_block, more_nodes, a_call, an_own_call, a_super_call, a_new, an_operation, a_choice, a_loop}
+use Rattle.ty_room.proofs.FormsWorth.{an_equal, some_texts, a_text_added, with_one, a_block, more_nodes, a_call, an_own_call, a_super_call, a_new, an_operation, a_choice, a_loop}
 use Rattle.ty_room.proofs.laws.sources.Goals as goal
 
 pub returns-clause-more_nodes : goal.returns-clause-more_nodes

@@ -11,7 +11,7 @@ use Rattle.ty_room.specs.Sizing.{nothing, beside, merged, together, keeping, nod
 use Rattle.ty_room.specs.Forms.{tree, this, boxed, called, applied, joined_texts}
 use Rattle.ty_room.specs.Source.{all_nodes, Worth, ExprWorth, CaseWorth, PatternWorth, AllWorth, text_added, text_added_of, number_added}
 use Rattle.ty_room.proofs.Rows.{FromStart, from_start}
-use Rattle.ty_room.proofs.Matching.{decided}
+use Rattle.ty_room.proofs.Chains.{decided}
 
 -- operands take eight bytes each at most
 kept_by : (few two : Bool) (all : ℕ) → (two ≡ true → 10 ≤ all) → (if few then 0 else (if two then 10 else all)) ≤ all
@@ -45,17 +45,17 @@ summed part parts =
     record { value = omega (arith, x.value); kept = omega (arith, x.kept); entries = omega (arith, x.entries) }
 
 -- so much for each part
-abbrev total : ℕ → List Size → ℕ
+abbrev pub total : ℕ → List Size → ℕ
 total n [] = 0
 total n (part ∷ parts) = n + total n parts
 
 -- all of some parts, by all their nodes
-record AllSum (spare left : ℕ) (ns : List ℕ) (parts : List Size) : Type 0 where
-  bytes : (together parts).value + total spare parts ≤ 31 * all_nodes ns
-  kept : (together parts).kept ≡ total 8 parts
-  entries : (together parts).entries + total left parts ≤ 5 * all_nodes ns
+pub record AllSum (spare left : ℕ) (ns : List ℕ) (parts : List Size) : Type 0 where
+  pub bytes : (together parts).value + total spare parts ≤ 31 * all_nodes ns
+  pub kept : (together parts).kept ≡ total 8 parts
+  pub entries : (together parts).entries + total left parts ≤ 5 * all_nodes ns
 
-all_sum : (spare left : ℕ) (ns : List ℕ) (parts : List Size) → AllWorth (Worth spare left) ns parts → AllSum spare left ns parts
+pub all_sum : (spare left : ℕ) (ns : List ℕ) (parts : List Size) → AllWorth (Worth spare left) ns parts → AllSum spare left ns parts
 all_sum spare left [] [] h = record { bytes = omega arith; kept = refl; entries = omega arith }
 all_sum spare left (n ∷ ns) (part ∷ parts) h =
     let rest = all_sum spare left ns parts h.1 in
