@@ -9,5 +9,6 @@ pub mod Replaced
 pub mod Source
 pub mod Members
 pub mod Limits
+pub mod AtLimits
 -- For proofs only.
 pub mod Capped

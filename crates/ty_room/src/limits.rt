@@ -5,6 +5,7 @@ ghost use Rattle.ty_prog.specs.declared.program.Program.{Program};
 ghost use Rattle.ty_room.specs.Room.{Room};
 ghost use Rattle.ty_room.specs.Limits.{WithinLimits};
 ghost use Rattle.ty_room.specs.Members.{members_fit, gains_fit};
+ghost use Rattle.ty_room.specs.AtLimits.{limits_fit};
 
 /// A program that keeps the limits has room.
 pub fn source_room()
@@ -16,4 +17,9 @@ pub fn source_room()
 pub fn members()
     ensures few { IsTrue members_fit }
     ensures counted { IsTrue gains_fit }
+{}
+
+/// Bodies and classes at the limits have room.
+pub fn at_limits()
+    ensures { IsTrue limits_fit }
 {}
