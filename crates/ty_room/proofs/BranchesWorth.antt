@@ -1,11 +1,11 @@
 -- Cases, patterns, matches and handlers of source.
-use Rattle.std.proofs.Common.{◌≡◌, ◌≤◌, ◌+◌, ◌*◌, ℕ, min, false, List, [], ◌∷◌, Option, Some, None, fold, length, refl, arith}
+use Rattle.std.proofs.Common.{◌≡◌, ◌≤◌, ◌+◌, ◌*◌, ℕ, false, List, [], ◌∷◌, Some, None, fold, length, refl, arith}
 use Rattle.ty_prog.specs.declared.catch.Catch.TheOpen.{Expr-F, Pattern-F}
 use Rattle.ty_room.specs.declared.size.Size.{Size}
 use Rattle.ty_room.specs.Sizing.{nothing, beside, merged, together, node_size, heavier, trying, deciding_size, make_size, case_size, pattern_step}
 use Rattle.ty_room.specs.Forms.{tree}
-use Rattle.ty_room.specs.Source.{all_nodes, Worth, ExprWorth, CaseWorth, PatternWorth, AllWorth}
-use Rattle.ty_room.proofs.FormsWorth.{total, AllSum, all_sum}
+use Rattle.ty_room.specs.Source.{all_nodes, ExprWorth, CaseWorth, PatternWorth, AllWorth}
+use Rattle.ty_room.proofs.FormsWorth.{total, all_sum}
 
 pub a_guarded_case : (n m l : ℕ) (p g b : Size) → PatternWorth n p → ExprWorth m g → ExprWorth l b → CaseWorth (n + m + l + 1) (case_size p (Some g) b)
 unfolding beside merged node_size heavier trying deciding_size make_size

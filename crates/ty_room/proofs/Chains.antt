@@ -1,12 +1,12 @@
 -- Patterns with parts, cases, matches and handlers, over what stands for their parts.
-use Rattle.std.proofs.Common.{◌≡◌, ◌≤◌, ◌+◌, ◌*◌, ℕ, min, Bool, true, false, if◌then◌else◌, List, [], ◌∷◌, Option, Some, None, fold, refl, ap, subst, arith}
+use Rattle.std.proofs.Common.{◌≡◌, ◌≤◌, ◌+◌, ℕ, Bool, true, false, List, [], ◌∷◌, Option, Some, None, refl, arith}
 use Rattle.ty_prog.specs.declared.catch.Catch.TheOpen.{Expr-F, Pattern-F}
 use Rattle.ty_room.specs.declared.size.Size.{Size}
 use Rattle.ty_room.specs.Sizing.{nothing, beside, merged, together, node_size, bool_size, choice_test, choice_size, loop_size, behind, covered, heavier, trying, deciding_size, make_size, case_size, pattern_step}
 use Rattle.ty_room.specs.Forms.{tree_at, always, local, joined, bound}
 use Rattle.ty_room.specs.NoMore.{NoMore}
 use Rattle.ty_room.specs.Replaced.{Reads, Tests, ChainFits, kept_first, few_made, many_made, one_of, match_end, matching, catching}
-use Rattle.ty_room.proofs.Rows.{FromStart, from_start}
+use Rattle.ty_room.proofs.Rows.{from_start}
 
 pub named : (read : ℕ) (value inner pattern rest : Size) → Reads read value → Tests 0 inner pattern (bound local rest)
     → Tests read (kept_first value inner) (pattern_step (Pattern-F.Bind 0 pattern)) rest

@@ -1,10 +1,10 @@
 -- A node of the same form over parts that take no more takes no more, as more lowerings are done.
-use Rattle.std.proofs.Common.{◌≡◌, ◌≤◌, ◌<◌, ◌+◌, ◌∙◌, ℕ, zero, suc, Bool, true, false, nat_eq, nat_lt, if◌then◌else◌, List, Option, Some, None, map, refl, ap, sym, subst, arith}
+use Rattle.std.proofs.Common.{◌≡◌, ◌≤◌, ℕ, Bool, true, false, nat_eq, if◌then◌else◌, Option, Some, None, refl, arith}
 use Rattle.ty_prog.specs.declared.catch.Catch.TheOpen.{Expr-F, Catch-F, Pattern-F, Case-F}
 use Rattle.ty_room.specs.declared.ahead.Ahead.{Ahead}
 use Rattle.ty_room.specs.declared.size.Size.{Size}
 use Rattle.ty_room.specs.Numbers.{form, local_bytes, get_numbers, put_numbers, handler_bytes, FINALLY_BYTES}
-use Rattle.ty_room.specs.Sizing.{nothing, beside, with_handler, with_finally, case_size, handler_step, expr_step, pattern_step, case_step}
+use Rattle.ty_room.specs.Sizing.{nothing, beside, with_handler, with_finally, handler_step, expr_step, pattern_step, case_step}
 use Rattle.ty_room.specs.NoMore.{NoMore, Part, low_expr, high_expr, low_handler, high_handler, low_pattern, high_pattern, low_case, high_case}
 use Rattle.ty_room.proofs.Monotone.{itself, FewerOf, same_numbers, node_no_more, beside_no_more, merged_no_more, together_no_more, statements_no_more, closed_no_more, choice_no_more, loop_size_no_more, heavier_no_more, trying_no_more, deciding_size_no_more, make_size_no_more}
 

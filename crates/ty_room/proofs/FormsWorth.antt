@@ -1,17 +1,16 @@
 -- Forms of source over parts of every size, and lists of every length.
-use Rattle.std.proofs.Common.{◌≡◌, ◌≤◌, ◌+◌, ◌*◌, ℕ, zero, suc, min, Bool, true, false, nat_eq, nat_le, if◌then◌else◌, List, [], ◌∷◌, Option, Some, None, fold, length, refl, ap, sym, subst, arith}
+use Rattle.std.proofs.Common.{◌≡◌, ◌≤◌, ◌+◌, ◌*◌, ℕ, Bool, true, false, nat_eq, nat_le, if◌then◌else◌, List, [], ◌∷◌, fold, length, refl, sym, subst, arith}
 use Rattle.std.proofs.lemmas.Grind.{common_steps}
-use Rattle.ty_prog.specs.declared.catch.Catch.TheOpen.{Expr-F, Pattern-F}
+use Rattle.ty_prog.specs.declared.catch.Catch.TheOpen.{Expr-F}
 use Rattle.ty_prog.specs.declared.prim_op.PrimOp.{PrimOp}
 use Rattle.ty_prog.specs.declared.prim_op.PrimOp.TheVariants as op
 use Rattle.ty_room.specs.declared.size.Size.{Size}
 use Rattle.ty_room.specs.declared.numbers.Numbers.{Numbers}
 use Rattle.ty_room.specs.Numbers.{form, operation, deciding, making, kept_bytes, operator_numbers}
-use Rattle.ty_room.specs.Sizing.{nothing, beside, merged, together, keeping, node_size, bool_size, choice_test, choice_size, loop_size, behind, covered, closed, heavier, trying, deciding_size, make_size, case_size, pattern_step}
+use Rattle.ty_room.specs.Sizing.{nothing, beside, merged, together, keeping, node_size, choice_size, loop_size, behind, covered, closed}
 use Rattle.ty_room.specs.Forms.{tree, this, boxed, called, applied, joined_texts}
-use Rattle.ty_room.specs.Source.{all_nodes, Worth, ExprWorth, CaseWorth, PatternWorth, AllWorth, text_added, text_added_of, number_added}
-use Rattle.ty_room.proofs.Rows.{FromStart, from_start}
-use Rattle.ty_room.proofs.Chains.{decided}
+use Rattle.ty_room.specs.Source.{all_nodes, Worth, ExprWorth, AllWorth, text_added}
+use Rattle.ty_room.proofs.Rows.{from_start}
 
 -- operands take eight bytes each at most
 kept_by : (few two : Bool) (all : ℕ) → (two ≡ true → 10 ≤ all) → (if few then 0 else (if two then 10 else all)) ≤ all

@@ -1,5 +1,5 @@
 -- What is still to come after more lowerings was to come before.
-use Rattle.std.proofs.Common.{◌≡◌, ◌≤◌, ℕ, zero, suc, Bool, true, false, nat_lt, refl, ap, arith}
+use Rattle.std.proofs.Common.{◌≡◌, ◌≤◌, ℕ, true, nat_lt, arith}
 use Rattle.ty_room.specs.Ahead.{ahead_of}
 use Rattle.ty_room.proofs.Copied.{Later}
 use Rattle.std.proofs.lemmas.Grind.{common_steps}

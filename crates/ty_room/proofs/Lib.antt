@@ -10,3 +10,4 @@ pub mod Chains
 pub mod FormsWorth
 pub mod BranchesWorth
 pub mod Within
+pub mod Keeping

@@ -1,10 +1,10 @@
 -- What is put together of sizes that are no more is no more.
-use Rattle.std.proofs.Common.{◌≡◌, ◌≤◌, ◌+◌, ◌∙◌, ℕ, zero, suc, min, Bool, true, false, nat_eq, nat_le, nat_lt, if◌then◌else◌, List, [], ◌∷◌, Option, Some, None, map, fold, refl, ap, sym, subst, arith}
+use Rattle.std.proofs.Common.{◌≡◌, ◌≤◌, ◌+◌, ◌∙◌, ℕ, Bool, true, false, nat_eq, if◌then◌else◌, List, [], ◌∷◌, Option, Some, None, map, fold, refl, ap, sym, subst, arith}
 use Rattle.std.proofs.lemmas.Grind.{common_steps}
 use Rattle.ty_room.specs.declared.size.Size.{Size}
 use Rattle.ty_room.specs.declared.numbers.Numbers.{Numbers}
 use Rattle.ty_room.specs.Numbers.{kept_bytes}
-use Rattle.ty_room.specs.Sizing.{nothing, beside, merged, keeping, node_size, bool_size, choice_test, choice_size, loop_size, behind, covered, closed, heavier, trying, deciding_size, make_size, with_guard, case_size}
+use Rattle.ty_room.specs.Sizing.{nothing, beside, merged, keeping, node_size, choice_test, choice_size, loop_size, behind, covered, closed, heavier, trying, deciding_size, make_size}
 use Rattle.ty_room.specs.NoMore.{NoMore, Part, low_of, high_of}
 
 pub itself : (s : Size) → NoMore s s
@@ -134,8 +134,8 @@ unfolding choice_size
 choice_no_more {a = a} {a' = a'} {b = b} {b' = b'} {c = c} {c' = c'} x y z = record {
   value = omega (arith, x.test, y.value, z.value);
   test = subst (λ f. choice_test (a.test + b.value + c.value + 3) a b c f c.fixed ≤ choice_test (a'.test + b'.value + c'.value + 3) a' b' c' b'.fixed c'.fixed) (sym y.fixed)
-    (subst (λ f. choice_test (a.test + b.value + c.value + 3) a b c b'.fixed f ≤ choice_test (a'.test + b'.value + c'.value + 3) a' b' c' b'.fixed c'.fixed) (sym z.fixed)
-    (decided b'.fixed c'.fixed));
+      (subst (λ f. choice_test (a.test + b.value + c.value + 3) a b c b'.fixed f ≤ choice_test (a'.test + b'.value + c'.value + 3) a' b' c' b'.fixed c'.fixed) (sym z.fixed)
+      (decided b'.fixed c'.fixed));
   fixed = refl;
   tries = omega (arith, x.tries, y.tries, z.tries);
   kept = refl;

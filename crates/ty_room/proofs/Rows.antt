@@ -1,14 +1,14 @@
 -- Each row of the tables of what lowerings put in place of forms.
-use Rattle.std.proofs.Common.{◌≡◌, ◌≤◌, ◌+◌, ◌*◌, ℕ, min, Bool, true, false, nat_eq, nat_lt, if◌then◌else◌, List, [], ◌∷◌, Option, Some, None, fold, refl, ap, subst, arith}
-use Rattle.ty_prog.specs.declared.catch.Catch.TheOpen.{Expr-F, Pattern-F}
+use Rattle.std.proofs.Common.{◌≡◌, ◌≤◌, ◌+◌, ℕ, Bool, true, false, nat_eq, if◌then◌else◌, List, [], ◌∷◌, fold, refl, ap, subst, arith}
+use Rattle.ty_prog.specs.declared.catch.Catch.TheOpen.{Expr-F}
 use Rattle.ty_room.specs.declared.size.Size.{Size}
 use Rattle.ty_room.specs.declared.numbers.Numbers.{Numbers}
 use Rattle.ty_room.specs.Numbers.{kept_bytes, operation, making}
-use Rattle.ty_room.specs.Sizing.{nothing, beside, merged, together, keeping, node_size, bool_size, choice_size, loop_size, behind, covered, heavier, trying, deciding_size, make_size, case_size, pattern_step}
-use Rattle.ty_room.specs.Forms.{tree_at, always, local, part, joined, first_then, bound}
+use Rattle.ty_room.specs.Sizing.{nothing, beside, merged, together, keeping, node_size, bool_size, choice_size, loop_size, behind, covered, heavier, trying, deciding_size, make_size}
+use Rattle.ty_room.specs.Forms.{tree_at, local, part}
 use Rattle.ty_room.specs.NoMore.{NoMore}
-use Rattle.ty_room.specs.Replaced.{each, TakesNoMore, Tests, IsTest, ChainFits, of_objects, of_traits, of_lazy_members, of_patterns, cast_part, kept_first, few_made, many_made, one_of, match_end, matching, catching}
-use Rattle.ty_room.proofs.Monotone.{itself, FewerOf, same_numbers, node_no_more}
+use Rattle.ty_room.specs.Replaced.{each, TakesNoMore, IsTest, of_objects, of_traits, of_lazy_members, of_patterns, cast_part}
+use Rattle.ty_room.proofs.Monotone.{same_numbers, node_no_more}
 
 -- what is put together from some start on is the start and what is put together
 pub record FromStart (start : Size) (parts : List Size) : Type 0 where

@@ -1,5 +1,5 @@
 -- Whole trees, by induction.
-use Rattle.std.proofs.Common.{◌≡◌, ◌∙◌, ℕ, List, [], ◌∷◌, Option, Some, None, map, refl, ap, sym, subst, arith}
+use Rattle.std.proofs.Common.{◌≡◌, ◌∙◌, ℕ, sym, subst, arith}
 use Rattle.ty_prog.specs.declared.expr.Expr.{Expr, roll-Expr}
 use Rattle.ty_prog.specs.declared.case.Case.{Case, roll-Case}
 use Rattle.ty_prog.specs.declared.pattern.Pattern.{Pattern, roll-Pattern}

@@ -1,14 +1,12 @@
 -- What keeps the limits has room.
-use Rattle.std.proofs.Common.{◌≡◌, ◌≤◌, ◌+◌, ◌*◌, ◌-◌, ℕ, true, Option, Some, None, List, length, sum_by, slice_index_or, arith}
-use Rattle.std.specs.List.{All}
+use Rattle.std.proofs.Common.{◌≤◌, ℕ, Option, Some, None, List, length, slice_index_or, arith}
 use Rattle.ty_prog.specs.declared.class.Class.{Class}
 use Rattle.ty_prog.specs.declared.cell.Cell.{Cell}
 use Rattle.ty_prog.specs.declared.method.Method.{Method}
 use Rattle.ty_prog.specs.declared.expr.Expr.{Expr}
 use Rattle.ty_prog.specs.declared.program.Program.{Program}
 use Rattle.ty_room.specs.Ahead.{ahead_of}
-use Rattle.ty_room.specs.Sizing.{expr_size}
-use Rattle.ty_room.specs.Room.{Room, ClassHasRoom, CellHasRoom, MethodHasRoom, BodyHasRoom, MOST_WEIGHT, superclass_size, class_size, body_weight}
+use Rattle.ty_room.specs.Room.{Room, ClassHasRoom, CellHasRoom, MethodHasRoom, BodyHasRoom, MOST_WEIGHT, body_weight}
 use Rattle.ty_room.specs.Limits.{BodyWithin, CellWithin, MethodWithin, SomeWithin, ClassWithin, WithinLimits}
 
 body_has_room : (given locals : ℕ) (body : Expr) → BodyWithin given locals body → body_weight (ahead_of 0) given locals body ≤ MOST_WEIGHT

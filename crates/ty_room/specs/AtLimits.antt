@@ -1,10 +1,10 @@
 -- Bodies and classes at the limits: what they take, computed from the numbers.
-use Rattle.std.specs.Prelude.{ℕ, ◌+◌, ◌*◌, Bool, List, [], ◌∷◌, Some, None, replicate, pos}
+use Rattle.std.specs.Prelude.{ℕ, ◌+◌, ◌*◌, Bool, List, [], ◌∷◌, Some, None, replicate}
 use Rattle.std.specs.List.{list_all}
 use Rattle.ty_prog.specs.declared.catch.Catch.TheOpen.{Expr-F, Pattern-F}
 use Rattle.ty_room.specs.declared.size.Size.{Size}
 use Rattle.ty_room.specs.Ahead.{ahead_of}
-use Rattle.ty_room.specs.Sizing.{nothing, together, case_size}
+use Rattle.ty_room.specs.Sizing.{together, case_size}
 use Rattle.ty_room.specs.Forms.{tree, matched, boxed, this, local, int, called}
 use Rattle.ty_room.specs.Source.{text_added}
 use Rattle.ty_room.specs.Room.{MOST_WEIGHT, MOST_ENTRIES, RETURN_WEIGHT, FILE_ENTRIES, NAMED_ENTRIES, CELL_ENTRIES, METHOD_ENTRIES, BODY_ENTRIES, TAKEN_CELL_ENTRIES, TAKEN_METHOD_ENTRIES, MIXIN_ENTRIES, coming_entries}

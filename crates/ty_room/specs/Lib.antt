@@ -10,5 +10,6 @@ pub mod Source
 pub mod Members
 pub mod Limits
 pub mod AtLimits
+pub mod Kept
 -- For proofs only.
 pub mod Capped

@@ -1,13 +1,12 @@
 -- What each lowering puts in place of a form, over parts of every size, side by side with the form. Trees are given by
 -- their sizes, as in Forms; a pass builds the same trees with these parts.
-use Rattle.std.specs.Prelude.{ℕ, ◌+◌, ◌*◌, ◌≤◌, ◌≡◌, List, [], ◌∷◌, Option, Some, None, pos}
+use Rattle.std.specs.Prelude.{ℕ, ◌+◌, ◌≤◌, ◌≡◌, List, [], ◌∷◌, Option, Some, pos}
 use Rattle.ty_prog.specs.declared.catch.Catch.TheOpen.{Expr-F, Pattern-F}
 use Rattle.ty_prog.specs.declared.prim_op.PrimOp.TheVariants as op
 use Rattle.ty_prog.specs.declared.ty.Ty.TheVariants as ty
-use Rattle.ty_prog.specs.declared.tested.Tested.TheVariants as tested
 use Rattle.ty_room.specs.declared.size.Size.{Size}
-use Rattle.ty_room.specs.Sizing.{nothing, beside, heavier, case_size, pattern_step}
-use Rattle.ty_room.specs.Forms.{tree_at, always, never, int, kept_in_local, first_then, joined, any_of, cast, literal_test, object_test, type_test, bound, local, part}
+use Rattle.ty_room.specs.Sizing.{nothing, beside, heavier, pattern_step}
+use Rattle.ty_room.specs.Forms.{tree_at, always, never, int, kept_in_local, first_then, joined, any_of, cast, literal_test, object_test, type_test, local}
 use Rattle.ty_room.specs.NoMore.{NoMore}
 
 -- what stands for a form, and the form

@@ -1,5 +1,5 @@
 -- What trees that stand for forms of source take, by the nodes of source: at most 31 bytes and fewer than 5 entries a node.
-use Rattle.std.specs.Prelude.{ℕ, ◌+◌, ◌*◌, ◌≤◌, List, [], ◌∷◌, Option, None}
+use Rattle.std.specs.Prelude.{ℕ, ◌+◌, ◌*◌, ◌≤◌, List, [], ◌∷◌}
 use Rattle.ty_prog.specs.declared.catch.Catch.TheOpen.{Expr-F}
 use Rattle.ty_prog.specs.declared.prim_op.PrimOp.TheVariants as op
 use Rattle.ty_room.specs.declared.size.Size.{Size}

@@ -25,7 +25,7 @@ use crate::pool::pool_has_room;
 pub use ahead::{Ahead, ahead_of};
 pub use class_numbers::{MOST_ENTRIES, MOST_WEIGHT};
 pub use laws::{branches, copying, folding, forms, matching, replacing, sources, testing};
-pub use limits::{at_limits, members, source_room};
+pub use limits::{at_limits, keeping_room, members, source_room};
 pub use size::Size;
 pub use sizing::size_of;
 use ty_prog::{Class, Program};

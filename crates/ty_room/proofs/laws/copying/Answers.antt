@@ -1,6 +1,5 @@
-use Rattle.std.proofs.Common.{◌≡◌, ◌≤◌, ◌<◌, ℕ, true, nat_lt, arith}
 use Rattle.ty_room.specs.Ahead.{ahead_of}
-use Rattle.ty_room.proofs.Copied.{Later, expr_no_more, handler_no_more, pattern_no_more, case_no_more}
+use Rattle.ty_room.proofs.Copied.{expr_no_more, handler_no_more, pattern_no_more, case_no_more}
 use Rattle.ty_room.proofs.Laterness.{later_of}
 use Rattle.ty_room.proofs.laws.copying.Goals as goal
 
