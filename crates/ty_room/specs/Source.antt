@@ -1,10 +1,7 @@
 -- What trees that stand for forms of source take, by the nodes of source: at most 31 bytes and fewer than 5 entries a node.
 use Rattle.std.specs.Prelude.{ℕ, ◌+◌, ◌*◌, ◌≤◌, List, [], ◌∷◌}
-use Rattle.ty_prog.specs.declared.catch.Catch.TheOpen.{Expr-F}
-use Rattle.ty_prog.specs.declared.prim_op.PrimOp.TheVariants as op
 use Rattle.ty_room.specs.declared.size.Size.{Size}
-use Rattle.ty_room.specs.Sizing.{heavier}
-use Rattle.ty_room.specs.Forms.{EXPR_SPARE, CASE_SPARE, PATTERN_SPARE, tree, this, local, boxed, called, joined_texts}
+use Rattle.ty_room.specs.Forms.{EXPR_SPARE, CASE_SPARE, PATTERN_SPARE, this, boxed, called, joined_texts}
 
 -- a tree for so many nodes of source, of which some bytes and entries are left over, for what a part costs where it stands
 pub record Worth (spare left nodes : ℕ) (size : Size) : Type 0 where
@@ -33,14 +30,6 @@ AllWorth worth [] [] = Unit
 AllWorth worth (n ∷ ns) (part ∷ parts) = worth n part × AllWorth worth ns parts
 AllWorth worth ns parts = ⊥
 
--- an assignment with `+` of a text that is a member of this object, and of one that is a member of another
+-- an assignment with `+` of a text that is a member
 abbrev pub text_added : Size → Size
 text_added e = boxed (called this (joined_texts (called this []) e ∷ []))
-
-abbrev pub text_added_of : Size → Size → Size
-text_added_of a e =
-    heavier 1 (boxed (tree (Expr-F.Block (tree (Expr-F.SetLocal 0 a) ∷ called local (joined_texts (called local []) e ∷ []) ∷ []))))
-
--- the same of numbers
-abbrev pub number_added : Size → Size
-number_added e = boxed (called this (tree (Expr-F.Prim op.Add (called this [] ∷ e ∷ [])) ∷ []))
