@@ -57,21 +57,22 @@ abbrev pub are_locals : ℕ → List Expr → Bool
 are_locals number [] = true
 are_locals number (e ∷ rest) = level_is_local number (out-Expr e) && are_locals (number + 1) rest
 
--- `this`, and then the parameters
-abbrev pub hands_on : List Expr → Bool
-hands_on [] = false
-hands_on (e ∷ rest) = is_this (out-Expr e) && are_locals 0 rest
+-- `this`, and then so many parameters
+abbrev pub hands_on : ℕ → List Expr → Bool
+hands_on count [] = false
+hands_on count (e ∷ rest) = is_this (out-Expr e) && nat_eq (length rest) count && are_locals 0 rest
 
 module _ (trait : ℕ) (methods : List Method) where
-  -- a call of the trait's own static method of a name, with the object and the parameters
-  abbrev pub level_forwards : List ℕ → ExprLevel → Bool
-  level_forwards name (Expr-F.StaticCall class method args) =
-      nat_eq class trait && hands_on args && unwrap_or (option_map (λ m. bytes_eq m.name name) (slice_get methods method)) false
-  level_forwards name other = false
+  -- a call of the trait's own static method of a name, with the object and so many parameters
+  abbrev pub level_forwards : List ℕ → ℕ → ExprLevel → Bool
+  level_forwards name count (Expr-F.StaticCall class method args) =
+      nat_eq class trait && hands_on count args && unwrap_or (option_map (λ m. bytes_eq m.name name) (slice_get methods method)) false
+  level_forwards name count other = false
 
-  -- a method m that isn't static is deferred, or calls `m$`
+  -- a method m that isn't static is deferred, or calls `m$` with the object and all its parameters
   abbrev pub method_lowered : Method → Bool
-  method_lowered m = m.is_static || unwrap_or (option_map (λ body. level_forwards (m.name ++ codes "$") (out-Expr body)) m.body) true
+  method_lowered m =
+      m.is_static || unwrap_or (option_map (λ body. level_forwards (m.name ++ codes "$") (length m.params) (out-Expr body)) m.body) true
 
 -- a trait with nothing but such methods
 abbrev pub trait_lowered : ℕ → Class → Bool
