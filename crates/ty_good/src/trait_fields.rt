@@ -24,42 +24,42 @@ pub fn trait_fields_stand(alloc: Global, k: u32, p: &Program) -> Result<bool, No
     if k >= 2 {
         return Ok(true);
     }
-    each_class(
-        alloc,
-        &Accesses {
-            classes: p.classes.as_slice(),
-        },
-        p,
-    )
+    each_class(alloc, &Accesses { p }, p)
 }
 
 #[derive(Clone, Copy)]
 struct Accesses<'a> {
-    classes: &'a [Class],
+    p: &'a Program,
 }
 
 impl ClassRule for Accesses<'_> {
     ghost use Rattle.std.specs.Prelude.{IsTrue};
     ghost use Rattle.ty_good.specs.TraitFields.{class_accesses};
 
-    ghost keeps = { λ rule number class. IsTrue (class_accesses rule.classes.now number class) };
+    ghost keeps = { λ rule number class. IsTrue (class_accesses rule.p.now.classes number class) };
 
     fn keeps(&self, alloc: Global, number: u32, class: &Class) -> Result<bool, NoMemory> {
-        if !parts_use_none(self.classes, number, class) {
-            return Ok(false);
-        }
-        Ok(methods_access(
-            alloc,
-            self.classes,
-            number,
-            class.fields.as_slice(),
-            class.methods.as_slice(),
-        )?)
+        Ok(class_accesses(alloc, self.p.classes.as_slice(), number, class)?)
     }
 }
 
+fn class_accesses(
+    alloc: Global,
+    classes: &[Class],
+    number: u32,
+    class: &Class,
+) -> Result<bool, AllocError>
+    ensures { IfOk result (λ answer. answer ≡ class_accesses classes.now number class.now) }
+{
+    if !parts_fit(classes, number, class) {
+        return Ok(false);
+    }
+    let fields = class.fields.as_slice();
+    methods_access(alloc, classes, number, fields, class.methods.as_slice())
+}
+
 // Whether what isn't in a method uses no field of a trait but where it defines one.
-fn parts_use_none(classes: &[Class], number: u32, class: &Class) -> bool
+fn parts_fit(classes: &[Class], number: u32, class: &Class) -> bool
     ensures { result ≡ (list_all (uses_none classes.now) class.now.super_args && list_all (defines classes.now number) class.now.body && list_all (λ c. uses_none classes.now c.init) class.now.cells) }
 {
     use_none(classes, class.super_args.as_slice())
