@@ -13,6 +13,7 @@ use Rattle.ty_prog.specs.declared.catch.Catch.TheOpen.{Expr-F}
 use Rattle.ty_prog.specs.Shape.{Shape, ExprShape, ExprForm}
 use Rattle.ty_prog.specs.Tree.{Tree, ExprTree, ConstructorTree, ExprLevel}
 use Rattle.ty_walk.specs.SumOver.{sum_over}
+use Rattle.ty_complete.specs.Words.{is_empty}
 use Rattle.ty_typed.specs.NodeTyped.{is_this}
 use Rattle.ty_good.specs.Each.{EachClass}
 
@@ -30,6 +31,10 @@ gets_lazy other = 0
 abbrev pub lazy_gets : Tree → ℕ
 lazy_gets tree = sum_over gets_lazy tree
 
+-- an expression that reads none
+abbrev pub gets_none : Expr → Bool
+gets_none e = nat_eq (lazy_gets (ExprTree e)) 0
+
 -- whether the cell with a number has a name
 abbrev pub is_cell_named : List Cell → List ℕ → ℕ → Bool
 is_cell_named cells name cell = unwrap_or (option_map (λ c. bytes_eq c.name name) (slice_get cells cell)) false
@@ -40,22 +45,15 @@ module _ (number : ℕ) (cells : List Cell) where
   level_gets_own name (Expr-F.LazyGet of class cell) = is_this (out-Expr of) && nat_eq class number && is_cell_named cells name cell
   level_gets_own name other = false
 
-  -- a body that reads the lazy member of the method's name, and does nothing else, or reads none
-  abbrev pub body_gets_own : List ℕ → Expr → Bool
-  body_gets_own name body = level_gets_own name (out-Expr body) || nat_eq (lazy_gets (ExprTree body)) 0
-
-  -- the body of a method is one, if there is a body
+  -- a method without parameters that reads the lazy member of its name, and does nothing else, or a method that reads none
   abbrev pub method_gets_own : Method → Bool
-  method_gets_own m = unwrap_or (option_map (body_gets_own m.name) m.body) true
-
--- an initialiser reads none
-abbrev pub cell_gets_none : Cell → Bool
-cell_gets_none cell = nat_eq (lazy_gets (ExprTree cell.init)) 0
+  method_gets_own m =
+      unwrap_or (option_map (λ body. is_empty m.params && level_gets_own m.name (out-Expr body) || gets_none body) m.body) true
 
 -- nothing in a class reads a lazy member but the methods of such names
 abbrev pub class_gets_own : ℕ → Class → Bool
 class_gets_own number class =
-    nat_eq (lazy_gets (ConstructorTree class)) 0 && list_all cell_gets_none class.cells
+    nat_eq (lazy_gets (ConstructorTree class)) 0 && list_all (λ c. gets_none c.init) class.cells
     && list_all (method_gets_own number class.cells) class.methods
 
 -- so in each class of the program, until the lowering of lazy members

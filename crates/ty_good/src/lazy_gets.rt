@@ -5,7 +5,7 @@ ghost use Rattle.std.specs.List.{list_all};
 ghost use Rattle.ty_prog.specs.declared.expr.Expr.{out-Expr};
 ghost use Rattle.ty_prog.specs.Node.{tree_of};
 ghost use Rattle.ty_prog.specs.Tree.{ConstructorTree};
-ghost use Rattle.ty_good.specs.LazyGets.{lazy_gets, is_cell_named, level_gets_own, body_gets_own, method_gets_own, cell_gets_none, class_gets_own, LazyGetsStand};
+ghost use Rattle.ty_good.specs.LazyGets.{lazy_gets, is_cell_named, level_gets_own, gets_none, method_gets_own, class_gets_own, LazyGetsStand};
 
 use crate::NoMemory;
 use crate::each::{ClassRule, each_class};
@@ -55,15 +55,15 @@ fn constructor_gets_none(class: &Class) -> bool
 }
 
 fn cells_get_none(cells: &[Cell]) -> bool
-    ensures { result ≡ list_all cell_gets_none cells.now }
+    ensures { result ≡ list_all (λ c. gets_none c.init) cells.now }
 {
-    cells.iter().all(cell_gets_none)
+    cells.iter().all(|cell| gets_none(&cell.init))
 }
 
-fn cell_gets_none(cell: &Cell) -> bool
-    ensures { result ≡ cell_gets_none cell.now }
+fn gets_none(e: &Expr) -> bool
+    ensures { result ≡ gets_none e.now }
 {
-    lazy_gets(Node::Expr(&cell.init)) == 0
+    lazy_gets(Node::Expr(e)) == 0
 }
 
 fn methods_get_own(number: u32, cells: &[Cell], methods: &[Method]) -> bool
@@ -72,20 +72,16 @@ fn methods_get_own(number: u32, cells: &[Cell], methods: &[Method]) -> bool
     methods.iter().all(|m| method_gets_own(number, cells, m))
 }
 
+// Whether a method without parameters does nothing but read the lazy member of its name, or a method reads none.
 fn method_gets_own(number: u32, cells: &[Cell], m: &Method) -> bool
     ensures { result ≡ method_gets_own number cells.now m.now }
 {
     match &m.body {
-        Some(body) => body_gets_own(number, cells, &m.name, body),
+        Some(body) => {
+            (m.params.is_empty() && gets_own(number, cells, &m.name, body)) || gets_none(body)
+        }
         None => true,
     }
-}
-
-// Whether a body is the read of the lazy member of a name, or reads none.
-fn body_gets_own(number: u32, cells: &[Cell], name: &Name, body: &Expr) -> bool
-    ensures { result ≡ body_gets_own number cells.now name.now body.now }
-{
-    gets_own(number, cells, name, body) || lazy_gets(Node::Expr(body)) == 0
 }
 
 fn gets_own(number: u32, cells: &[Cell], name: &Name, body: &Expr) -> bool

@@ -56,10 +56,10 @@ fn otherwise(classes: &[Class], wanted: &Method, linear: &[u32]) -> Option<(u32,
 fn is_built_in(m: &Method) -> bool
     ensures { result ≡ is_built_in m.now }
 {
-    is_text_of(m) || is_equality(m)
+    is_to_string(m) || is_equals(m)
 }
 
-fn is_text_of(m: &Method) -> bool
+fn is_to_string(m: &Method) -> bool
     ensures { result ≡ (bytes_eq m.now.name (codes "toString") && params_alike m.now.params [] && results_alike m.now.result ty.Text) }
 {
     is_called(&m.name, "toString")
@@ -67,7 +67,7 @@ fn is_text_of(m: &Method) -> bool
         && results_alike(m.result, Ty::Text)
 }
 
-fn is_equality(m: &Method) -> bool
+fn is_equals(m: &Method) -> bool
     ensures { result ≡ (bytes_eq m.now.name (codes "equals") && params_alike m.now.params (ty.Any ∷ []) && results_alike m.now.result ty.Boolean) }
 {
     is_called(&m.name, "equals")
