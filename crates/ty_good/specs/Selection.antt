@@ -1,6 +1,6 @@
 -- Which method a call on an object of a class runs (JVMS 5.4.6, with default methods and no access flags), and that it is
 -- the first one of the linearisation.
-use Rattle.std.specs.Prelude.{◌≡◌, ℕ, Bool, true, false, ◌&&◌, ◌||◌, not, nat_eq, nat_le, is_some, IsTrue, List, [], ◌∷◌, ◌++◌, Option, Some, None, codes, slice_get, option_map, option_and_then, option_to_list, if◌then◌else◌}
+use Rattle.std.specs.Prelude.{◌≡◌, ℕ, Bool, true, false, ◌&&◌, ◌||◌, not, nat_eq, nat_le, is_some, IsTrue, List, [], ◌∷◌, ◌++◌, Option, Some, None, codes, slice_get, option_map, option_and_then, if◌then◌else◌}
 use Rattle.std.specs.List.{list_all, list_any, position_from}
 use Rattle.std.specs.Option.{option_or, unwrap_or}
 use Rattle.std.specs.Str.{bytes_eq}

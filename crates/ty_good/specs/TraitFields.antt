@@ -12,7 +12,7 @@ use Rattle.ty_prog.specs.declared.program.Program.{Program}
 use Rattle.ty_prog.specs.declared.expr.Expr.{Expr, out-Expr}
 use Rattle.ty_prog.specs.declared.catch.Catch.TheOpen.{Expr-F}
 use Rattle.ty_prog.specs.Shape.{Shape, ExprShape, ExprForm}
-use Rattle.ty_prog.specs.Tree.{Tree, ExprTree, ExprLevel}
+use Rattle.ty_prog.specs.Tree.{ExprTree, ExprLevel}
 use Rattle.ty_walk.specs.SumOver.{sum_over}
 use Rattle.ty_conform.specs.Kinds.{is_trait}
 use Rattle.ty_typed.specs.NodeTyped.{is_this}

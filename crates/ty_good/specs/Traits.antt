@@ -1,5 +1,5 @@
 -- What traits and the classes that mix them in have before the lowering of traits, the second of the four, and from it on.
-use Rattle.std.specs.Prelude.{ℕ, ◌+◌, ◌≡◌, ◌≤◌, Bool, true, false, ◌&&◌, ◌||◌, not, nat_eq, nat_le, is_some, IsTrue, IsFalse, List, [], ◌∷◌, ◌++◌, Option, Some, None, codes, drop, length, reverse, slice_get, option_map, if◌then◌else◌}
+use Rattle.std.specs.Prelude.{ℕ, ◌+◌, ◌≡◌, Bool, true, false, ◌&&◌, ◌||◌, not, nat_eq, nat_le, IsTrue, IsFalse, List, [], ◌∷◌, ◌++◌, Option, codes, drop, length, reverse, slice_get, option_map, if◌then◌else◌}
 use Rattle.std.specs.List.{All, filter, list_all}
 use Rattle.std.specs.Option.{unwrap_or}
 use Rattle.std.specs.Str.{bytes_eq}
@@ -8,7 +8,7 @@ use Rattle.ty_prog.specs.declared.method.Method.{Method}
 use Rattle.ty_prog.specs.declared.program.Program.{Program}
 use Rattle.ty_prog.specs.declared.expr.Expr.{Expr, out-Expr}
 use Rattle.ty_prog.specs.declared.catch.Catch.TheOpen.{Expr-F}
-use Rattle.ty_prog.specs.Tree.{Tree, ExprTree, ExprLevel}
+use Rattle.ty_prog.specs.Tree.{Tree, ExprLevel}
 use Rattle.ty_walk.specs.Everywhere.{AllNodesOf}
 use Rattle.ty_conform.specs.Kinds.{is_trait, is_trait_kind, superclass, reaches}
 use Rattle.ty_complete.specs.Complete.{super_of}
