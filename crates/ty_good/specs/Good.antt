@@ -9,6 +9,7 @@ use Rattle.ty_good.specs.Forms.{HasForms}
 use Rattle.ty_good.specs.Names.{NamesMade}
 use Rattle.ty_good.specs.Traits.{MixinsFit, SupersStand, TraitsHaveRoom, TraitsLowered}
 use Rattle.ty_good.specs.Modules.{ModulesSet}
+use Rattle.ty_good.specs.Accessors.{AccessorsFound}
 use Rattle.ty_good.specs.LazyGets.{LazyGetsStand}
 use Rattle.ty_good.specs.TraitFields.{TraitFieldsStand}
 use Rattle.ty_good.specs.Selection.{SelectsFound}
@@ -27,6 +28,7 @@ pub record GoodWith (k : ℕ) (p : Program) (locals : List ClassLocals) : Type 0
   pub modules : ModulesSet k p
   pub lazy_gets : LazyGetsStand k p
   pub trait_fields : TraitFieldsStand k p
+  pub accessors : AccessorsFound k p
   pub selection : SelectsFound k p
 
 -- all numbers are in range, each expression has the type that its place wants, each local has one type, the program is

@@ -1,4 +1,5 @@
 -- What a reader must believe.
+pub mod Accessors
 pub mod Each
 pub mod Forms
 pub mod Good

@@ -1,6 +1,7 @@
 //! Whether a program is good.
 
 ghost use Rattle.std.specs.Prelude.{◌↔◌, IfOk, IsTrue};
+ghost use Rattle.ty_good.specs.Accessors.{AccessorsFound};
 ghost use Rattle.ty_good.specs.Forms.{HasForms};
 ghost use Rattle.ty_good.specs.Good.{GoodWith};
 ghost use Rattle.ty_good.specs.LazyGets.{LazyGetsStand};
@@ -11,6 +12,7 @@ ghost use Rattle.ty_good.specs.TraitFields.{TraitFieldsStand};
 ghost use Rattle.ty_good.specs.Traits.{MixinsFit, SupersStand, TraitsHaveRoom, TraitsLowered};
 
 use crate::NoMemory;
+use crate::accessors::accessors_found;
 use crate::forms::has_forms;
 use crate::lazy_gets::lazy_gets_stand;
 use crate::modules::modules_set;
@@ -73,12 +75,15 @@ fn members_fit(alloc: Global, k: u32, p: &Program) -> Result<bool, NoMemory>
 
 // Where its lazy members and the fields of its traits are read and stored.
 fn accesses_fit(alloc: Global, k: u32, p: &Program) -> Result<bool, NoMemory>
-    ensures { IfOk result (λ answer. IsTrue answer ↔ (LazyGetsStand k p.now × TraitFieldsStand k p.now)) }
+    ensures { IfOk result (λ answer. IsTrue answer ↔ (LazyGetsStand k p.now × TraitFieldsStand k p.now × AccessorsFound k p.now)) }
 {
     if !lazy_gets_stand(alloc, k, p)? {
         return Ok(false);
     }
-    trait_fields_stand(alloc, k, p)
+    if !trait_fields_stand(alloc, k, p)? {
+        return Ok(false);
+    }
+    accessors_found(alloc, k, p)
 }
 
 // What its traits and mixins tell.

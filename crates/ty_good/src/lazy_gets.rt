@@ -84,7 +84,8 @@ fn method_gets_own(number: u32, cells: &[Cell], m: &Method) -> bool
     }
 }
 
-fn gets_own(number: u32, cells: &[Cell], name: &Name, body: &Expr) -> bool
+/// Whether a body does nothing but read the lazy member of a name, in the class with a number and these cells.
+pub(crate) fn gets_own(number: u32, cells: &[Cell], name: &Name, body: &Expr) -> bool
     ensures { result ≡ level_gets_own number cells.now name.now (out-Expr body.now) }
 {
     match body {

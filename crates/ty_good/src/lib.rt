@@ -2,6 +2,7 @@
 //! part, for tests on small programs.
 #![tactic(auto)]
 
+mod accessors;
 mod each;
 mod forms;
 mod goodness;
@@ -13,6 +14,7 @@ mod selection;
 mod trait_fields;
 mod traits;
 
+pub use accessors::accessors_found;
 pub use forms::has_forms;
 pub use goodness::is_good_with;
 pub use lazy_gets::lazy_gets_stand;

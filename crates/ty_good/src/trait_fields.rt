@@ -143,8 +143,8 @@ fn method_accesses(
     }
 }
 
-// Whether a body is that of the getter or the setter of a name.
-fn is_access(
+/// Whether a body is that of the getter or the setter of a name. Errors: want of memory.
+pub(crate) fn is_access(
     alloc: Global,
     number: u32,
     fields: &[Field],

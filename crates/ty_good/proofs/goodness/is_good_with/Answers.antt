@@ -22,6 +22,7 @@ returns c =
             modules = members.1;
             lazy_gets = accesses.0;
             trait_fields = accesses.1;
+            accessors = accesses.2;
             selection = members.2;
           },
       λ all. told.1 (all.mixins, all.supers, all.traits),
