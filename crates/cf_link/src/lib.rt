@@ -9,8 +9,10 @@ mod linked_class;
 mod member;
 mod native;
 mod reference;
+mod resolution;
 mod selection;
 mod table;
+mod tables;
 mod targets;
 mod value_kind;
 
@@ -24,6 +26,7 @@ pub use linked_class::LinkedClass;
 pub use member::{LinkedField, LinkedMethod, Slot};
 pub use native::Native;
 pub use reference::LinkedRef;
+pub use resolution::{resolved_field, resolved_method};
 pub use selection::{chosen, selected};
 pub use table::{Face, Table};
 pub use targets::target;
