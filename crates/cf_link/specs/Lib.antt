@@ -5,5 +5,7 @@ pub mod Selection
 pub mod Layout
 pub mod Resolution
 pub mod Linked
+pub mod BuiltIns
+pub mod Link
 -- For proofs only.
 pub mod Places

@@ -29,5 +29,6 @@ pub use reference::LinkedRef;
 pub use resolution::{resolved_field, resolved_method};
 pub use selection::{chosen, selected};
 pub use table::{Face, Table};
+pub use tables::tables_of;
 pub use targets::target;
 pub use value_kind::ValueKind;

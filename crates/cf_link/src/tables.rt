@@ -14,7 +14,7 @@ use sqlite_items::Items;
 use std::alloc::{AllocError, Global};
 
 /// The table of each class. A table of 2^32 places or more is answered as want of memory.
-pub(crate) fn tables_of(alloc: Global, classes: &[LinkedClass]) -> Result<Items<Table>, AllocError>
+pub fn tables_of(alloc: Global, classes: &[LinkedClass]) -> Result<Items<Table>, AllocError>
     ensures { IfOk result (λ tables. tables ≡ map (table classes.now) (numbers (length classes.now))) }
 {
     let mut tables = Items::new(alloc);
