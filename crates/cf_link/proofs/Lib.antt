@@ -1,3 +1,4 @@
 mod Chains
 mod Targeting
 mod Numbering
+mod Types

@@ -9,3 +9,4 @@ pub mod BuiltIns
 pub mod Link
 -- For proofs only.
 pub mod Places
+pub mod Parsing

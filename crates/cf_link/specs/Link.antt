@@ -1,9 +1,9 @@
 -- Which linked set class files make (JVMS 5.3, 5.4).
-use Rattle.std.specs.Prelude.{◌≡◌, ◌≢◌, ℕ, ◌+◌, ◌<◌, Bool, true, false, ◌&&◌, not, is_some, List, [], ◌∷◌, ◌++◌, Option, Some, None, ⊤, codes, map, length, slice_get, option_map, option_and_then, filter, if◌then◌else◌}
-use Rattle.std.specs.List.{list_any, flat_map, position_from}
+use Rattle.std.specs.Prelude.{◌≡◌, ℕ, Bool, ◌&&◌, not, is_some, List, [], ◌∷◌, ◌++◌, Option, Some, None, codes, map, slice_get, option_map, filter, if◌then◌else◌}
+use Rattle.std.specs.List.{list_any, flat_map}
 use Rattle.std.specs.Option.{unwrap_or}
 use Rattle.std.specs.Str.{bytes_eq}
-use Rattle.cf_form.specs.ClassFiles.{Each, key}
+use Rattle.cf_form.specs.ClassFiles.{Each}
 use Rattle.cf_form.specs.Pool.{entry, text_at}
 use Rattle.cf_form.specs.declared.class_file.ClassFile.{ClassFile}
 use Rattle.cf_form.specs.declared.class_file.FieldInfo.{FieldInfo}
@@ -13,7 +13,6 @@ use Rattle.cf_form.specs.declared.constant.Const.TheVariants as constant
 use Rattle.cf_link.specs.BuiltIns.{BuiltIn, built_ins}
 use Rattle.cf_link.specs.Classes.{is_static, number_of, methods_of}
 use Rattle.cf_link.specs.Resolution.{is_method, resolved_field, resolved_method}
-use Rattle.cf_link.specs.Linked.{IsLinked}
 use Rattle.cf_link.specs.declared.linked.Linked.{Linked}
 use Rattle.cf_link.specs.declared.linked_class.LinkedClass.{LinkedClass}
 use Rattle.cf_link.specs.declared.member.LinkedField.{LinkedField}

@@ -35,7 +35,7 @@ module _ (classes : List LinkedClass) (name descriptor : List ℕ) where
   field_in class =
       if nat_lt class BUILT_INS then None
       else option_or (instance_in class)
-          (option_map (λ i. Static class i) (number_of (is_field name descriptor) (statics_of classes class)))
+      (option_map (λ i. Static class i) (number_of (is_field name descriptor) (statics_of classes class)))
 
   -- the method that a class declares
   abbrev pub method_in : ℕ → Option LinkedRef

@@ -3,7 +3,9 @@
 
 pub mod built_in;
 mod classes;
+mod descriptors;
 mod fault;
+mod laws;
 mod linked;
 mod linked_class;
 mod member;
@@ -20,7 +22,9 @@ pub use classes::{
     chain_of, conforms, fields_of, is_abstract, is_in, is_interface, is_static, line_of, method_at,
     methods_of, slots_of, statics_of,
 };
+pub use descriptors::field_kind;
 pub use fault::{LinkFault, LinkKind};
+pub use laws::built_in_numbers;
 pub use linked::Linked;
 pub use linked_class::LinkedClass;
 pub use member::{LinkedField, LinkedMethod, Slot};

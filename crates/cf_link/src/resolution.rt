@@ -6,7 +6,9 @@ ghost use Rattle.cf_link.specs.Resolution.{is_field, is_method, instance_in, fie
 ghost use Rattle.cf_link.specs.declared.reference.LinkedRef.TheVariants.{Field, Static};
 
 use crate::built_in::BUILT_INS;
-use crate::classes::{chain_of, fields_of, is_interface, line_of, methods_of, number, slots_of, statics_of};
+use crate::classes::{
+    chain_of, fields_of, is_interface, line_of, methods_of, number, slots_of, statics_of,
+};
 use crate::linked_class::LinkedClass;
 use crate::member::{LinkedField, LinkedMethod};
 use crate::reference::LinkedRef;
@@ -89,7 +91,11 @@ fn instance_in(
 {
     let slots = slots_of(classes, class).len();
     let fields = fields_of(classes, class);
-    let inherited = if fields.len() <= slots { slots - fields.len() } else { 0 };
+    let inherited = if fields.len() <= slots {
+        slots - fields.len()
+    } else {
+        0
+    };
     match position_of_field(fields, name, descriptor) {
         Some(i) => field_at(class, inherited, i),
         None => None,

@@ -90,7 +90,11 @@ fn faces_of(alloc: Global, classes: &[LinkedClass], class: u32) -> Result<Items<
 }
 
 // The interfaces to which a class conforms, in rising order.
-fn interfaces_of(alloc: Global, classes: &[LinkedClass], class: u32) -> Result<Items<u32>, AllocError>
+fn interfaces_of(
+    alloc: Global,
+    classes: &[LinkedClass],
+    class: u32,
+) -> Result<Items<u32>, AllocError>
     ensures { IfOk result (λ interfaces. interfaces ≡ interfaces_of classes.now class) }
 {
     let mut interfaces = Items::new(alloc);
