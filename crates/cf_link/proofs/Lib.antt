@@ -2,3 +2,4 @@ mod Chains
 mod Targeting
 mod Numbering
 mod Types
+mod Following

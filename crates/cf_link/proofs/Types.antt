@@ -170,7 +170,7 @@ whole_given bytes kind after h none =
 pub whole_read : (bytes : List ℕ) (kind : ValueKind) → IsType bytes kind → parse.type_in_front bytes ≡ Some (kind, [])
 whole_read bytes kind is = ap parse.type_in_front (sym (append-nil bytes)) ∙ type_read bytes kind [] is
 
-some_pair : (p q : ValueKind × List ℕ) → Some p ≡ Some q → (p.0 ≡ q.0) × (p.1 ≡ q.1)
+pub some_pair : (p q : ValueKind × List ℕ) → Some p ≡ Some q → (p.0 ≡ q.0) × (p.1 ≡ q.1)
 some_pair p q h = let same : p ≡ q = cc h in (ap (λ r. r.0) same, ap (λ r. r.1) same)
 
 -- the kind of a type is the one that is read

@@ -10,3 +10,4 @@ pub mod Link
 -- For proofs only.
 pub mod Places
 pub mod Parsing
+pub mod Signatures

@@ -19,8 +19,8 @@ pub fn field_kind(descriptor: &Name) -> Option<ValueKind>
     }
 }
 
-// A type, and what stands behind it.
-fn type_in_front(bytes: &[u8]) -> Option<(ValueKind, &[u8])>
+/// A type, and what stands behind it.
+pub(crate) fn type_in_front(bytes: &[u8]) -> Option<(ValueKind, &[u8])>
     ensures { MatchOption result (type_in_front bytes.now ≡ None) (λ found. type_in_front bytes.now ≡ Some (found.0, found.1.now)) }
 {
     let mut rest = bytes;
