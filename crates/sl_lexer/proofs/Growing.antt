@@ -14,3 +14,7 @@ grown bs ds cs c u v e h =
 pub grown_if : {A E : Type 0} (r : Result A E) (bs ds cs : List ℕ) (c : ℕ) → IsUtf8 bs → IsUtf8 ds → ds ≡ (if is_ok r then bs ++ encode_utf8 c else bs) → chars bs ≡ cs → OnOk r (chars ds ≡ cs ++ c ∷ [])
 grown_if (Ok x) bs ds cs c u v e h = grown bs ds cs c u v e h
 grown_if (Err x) bs ds cs c u v e h = tt
+
+-- the characters of a text are those that its bytes spell
+pub spelled_back : (cs bs : List ℕ) → IsUtf8 bs → bs ≡ encode_utf8_all cs → chars bs ≡ cs
+spelled_back cs bs u e = sym (chars_from_encodes cs bs u (sym e))

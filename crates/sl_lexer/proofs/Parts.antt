@@ -62,6 +62,10 @@ part_size (d ∷ a) c n h = go (d == 34) (ends_line d) (d == 92) h
     go false false true h = escape_size a c n h
     go false false false h = let k : 1 ≡ n = cc in (omega (arith, k), omega (arith, k))
 
+pub close_size : (a : List ℕ) → part_of a ≡ p.Close → 0 < length a
+close_size [] h = absurd cc
+close_size (d ∷ a) h = omega arith
+
 -- ---- as many parts as there may be
 
 shorter : (a : List ℕ) (j m : ℕ) → 0 < j → j ≤ length a → length a < suc m → length (drop j a) < m

@@ -29,7 +29,11 @@ is_operator c = list_any (λ d. d == c) (codes "!#%&*+-/:<=>?@\\^|~")
 abbrev pub comment_begins : ℕ → Option ℕ → Bool
 comment_begins c next = (c == 47) && (is 47 next || is 42 next)
 
+-- an operator goes on with this character, where that one follows it
+abbrev pub goes_on : ℕ → Option ℕ → Bool
+goes_on c next = is_operator c && not (comment_begins c next)
+
 -- how many operator characters there are in front, up to a comment
 abbrev pub operator_len : List ℕ → ℕ
 operator_len [] = 0
-operator_len (c ∷ a) = cond (is_operator c && not (comment_begins c (first a))) (1 + operator_len a) 0
+operator_len (c ∷ a) = cond (goes_on c (first a)) (1 + operator_len a) 0

@@ -1,6 +1,6 @@
 -- What stands at a place of a text: white space, a comment, a token or a fault (SLS 1). Faults come first: a piece is a
 -- token only where no fault stands.
-use Rattle.std.specs.Prelude.{ℕ, suc, ◌+◌, ◌==◌, ◌&&◌, ◌||◌, not, nat_lt, Bool, true, false, List, [], ◌∷◌, drop, take, take_while, length, Option, Some, None, Result, Ok, Err, if◌then◌else◌, position, encode_utf8_all}
+use Rattle.std.specs.Prelude.{ℕ, suc, ◌+◌, ◌==◌, ◌&&◌, ◌||◌, not, nat_lt, Bool, true, false, List, [], ◌∷◌, drop, take, length, Option, Some, None, Result, Ok, Err, if◌then◌else◌, position, encode_utf8_all}
 use Rattle.std.specs.List.{prefix_len}
 use Rattle.std.specs.Str.{bytes_eq}
 use Rattle.std.specs.Char.{is_ascii_whitespace, is_ascii_digit}
@@ -30,22 +30,26 @@ keyword word = position (λ other. bytes_eq other.now (encode_utf8_all word)) KE
 abbrev pub mark : List ℕ → Option ℕ
 mark word = position (λ other. bytes_eq other.now (encode_utf8_all word)) MARK_TEXTS
 
+-- a front of the list: the first character, and as many behind it as have the property
+abbrev pub run : (ℕ → Bool) → List ℕ → ℕ
+run p a = 1 + prefix_len p (drop 1 a)
+
 -- a name has at most 80 characters
-abbrev pub by_keyword : List ℕ → Option ℕ → Piece
-by_keyword word None = if nat_lt 80 (length word) then piece.Fault fault.LongText (length word) else piece.Token (kind.Id word) (length word)
-by_keyword word (Some number) = piece.Token (kind.Key number) (length word)
+abbrev pub by_keyword : ℕ → List ℕ → Option ℕ → Piece
+by_keyword n word None = if nat_lt 80 n then piece.Fault fault.LongText n else piece.Token (kind.Id word) n
+by_keyword n word (Some number) = piece.Token (kind.Key number) n
 
 -- a word goes as far as characters continue it
 abbrev pub word_piece : List ℕ → Piece
-word_piece a = let word = take_while is_xid_continue a in by_keyword word (keyword word)
+word_piece a = let n = run is_xid_continue a in by_keyword n (take n a) (keyword (take n a))
 
-abbrev pub by_mark : List ℕ → Option ℕ → Piece
-by_mark word None = piece.Token (kind.Op word) (length word)
-by_mark word (Some number) = piece.Token (kind.Mark number) (length word)
+abbrev pub by_mark : ℕ → List ℕ → Option ℕ → Piece
+by_mark n word None = piece.Token (kind.Op word) n
+by_mark n word (Some number) = piece.Token (kind.Mark number) n
 
 -- operator characters, up to a comment
 abbrev pub operator_piece : List ℕ → Piece
-operator_piece a = let word = take (operator_len a) a in by_mark word (mark word)
+operator_piece a = let n = 1 + operator_len (drop 1 a) in by_mark n (take n a) (mark (take n a))
 
 -- a `.` and a digit behind it
 abbrev pub fraction : List ℕ → Bool
@@ -54,16 +58,20 @@ fraction a = is 46 (first a) && holds is_ascii_digit (first (drop 1 a))
 abbrev pub in_number : ℕ → Bool
 in_number c = is_xid_continue c || (c == 46)
 
+abbrev pub wrong_number : List ℕ → Piece
+wrong_number a = piece.Fault fault.Number (run in_number a)
+
 abbrev pub by_literal : List ℕ → ℕ → Result Numeral NumFault → Piece
-by_literal a n (Err _) = piece.Fault fault.Number (prefix_len in_number a)
+by_literal a n (Err _) = wrong_number a
 by_literal a n (Ok value) = piece.Token (kind.Number value) n
 
--- what begins with a digit is a number, with all characters that would continue a word, and with no fraction behind it
+-- What begins with a digit is a number, with all characters that would continue a word, and with no fraction behind it.
+-- A wrong one goes as far as such characters and dots go.
 abbrev pub number_piece : List ℕ → Piece
 number_piece a =
-    let word = take_while is_xid_continue a in
-    if fraction (drop (length word) a) then piece.Fault fault.Number (prefix_len in_number a)
-    else by_literal a (length word) (literal (encode_utf8_all word))
+    let n = run is_xid_continue a in
+    if fraction (drop n a) then wrong_number a
+    else by_literal a n (literal (encode_utf8_all (take n a)))
 
 -- a text has at most 10,000 characters; a wrong one goes up to the next `"` or the line's end
 abbrev pub by_end : List ℕ → TextEnd → Piece
@@ -80,8 +88,8 @@ by_comment a None = piece.Fault fault.OpenComment (length a)
 by_comment a (Some n) = piece.Blank (2 + n)
 
 abbrev pub by_class : Bool → Class → List ℕ → Piece
-by_class low class.White a = piece.Blank (prefix_len is_ascii_whitespace a)
-by_class low class.LineComment a = piece.Blank (prefix_len (λ c. not (c == 10)) a)
+by_class low class.White a = piece.Blank (run is_ascii_whitespace a)
+by_class low class.LineComment a = piece.Blank (run (λ c. not (c == 10)) a)
 by_class low class.BlockComment a = by_comment a (comment_len (drop 2 a))
 by_class low class.Dollar a = piece.Fault fault.Dollar 1
 by_class low class.Quote a = text_piece (drop 1 a)

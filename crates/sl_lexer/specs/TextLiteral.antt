@@ -1,5 +1,5 @@
 -- Text literals (SLS 1.3.5, 1.3.6): the characters and escapes between two `"` of one line.
-use Rattle.std.specs.Prelude.{ℕ, zero, suc, ◌+◌, ◌*◌, ◌==◌, Bool, true, false, List, [], ◌∷◌, drop, length, Option, Some, None, if◌then◌else◌}
+use Rattle.std.specs.Prelude.{ℕ, ◌≤◌, zero, suc, ◌+◌, ◌*◌, ◌==◌, Bool, true, false, List, [], ◌∷◌, drop, length, Option, Some, None, if◌then◌else◌}
 use Rattle.std.specs.Option.{option_and_then}
 use Rattle.std.specs.List.{prefix_len}
 use Rattle.std.specs.Char.{digit_value, is_digit}
@@ -87,3 +87,8 @@ text_in (suc n) a = by_part (λ k. text_in n (drop k a)) (part_of a)
 -- or a wrong escape, or the line's end, comes first. Each part has a character, so there are no more of them.
 abbrev pub text_end : List ℕ → TextEnd
 text_end a = text_in (suc (length a)) a
+
+-- a text that is closed is so within these characters
+abbrev pub IsClosedWithin : List ℕ → TextEnd → Type 0
+IsClosedWithin a (end.Closed value n) = n ≤ length a
+IsClosedWithin a e = Unit {0}

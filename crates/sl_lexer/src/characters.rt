@@ -1,11 +1,13 @@
 //! Characters of a text.
 
-ghost use Rattle.std.specs.Prelude.{◌≡◌, ◌==◌, ◌||◌, not, drop, take, take_while, length, cond, IfOk, encode_utf8_all};
+ghost use Rattle.std.specs.Prelude.{◌≡◌, ◌≤◌, ◌==◌, ◌||◌, not, drop, take, take_while, length, cond, IfOk, encode_utf8_all};
 ghost use Rattle.std.specs.List.{prefix_len};
 ghost use Rattle.std.specs.Char.{is_ascii_digit, is_ascii_whitespace};
 ghost use Rattle.std.specs.String.{string_bytes};
 ghost use Rattle.unicode_ident.specs.Ident.{is_xid_continue};
 ghost use Rattle.sl_lexer.specs.Characters as spec;
+ghost use Rattle.sl_lexer.specs.Piece.{in_number};
+ghost use Rattle.std.specs.Str.{chars};
 
 use std::alloc::{AllocError, Global};
 
@@ -18,7 +20,8 @@ pub fn first(left: &[char]) -> Option<char>
 
 /// What stands behind so many characters.
 pub fn behind(left: &[char], count: usize) -> &[char]
-    ensures { result.now ≡ drop count left.now }
+    ensures value { result.now ≡ drop count left.now }
+    ensures within { length result.now ≤ length left.now }
 {
     if count <= left.len() {
         &left[count..]
@@ -110,37 +113,56 @@ pub fn comment_begins(c: char, next: Option<char>) -> bool
 
 /// How many characters in front continue a word.
 pub fn word_len(left: &[char]) -> usize
-    ensures { result ≡ prefix_len is_xid_continue left.now }
+    ensures value { result ≡ prefix_len is_xid_continue left.now }
+    ensures within { result ≤ length left.now }
 {
     left.iter()
         .take_while(|c| unicode_ident::is_xid_continue(**c))
         .count()
 }
 
+/// How many characters in front continue a word or are dots.
+pub fn number_len(left: &[char]) -> usize
+    ensures value { result ≡ prefix_len in_number left.now }
+    ensures within { result ≤ length left.now }
+{
+    left.iter().take_while(|c| in_number(**c)).count()
+}
+
+fn in_number(c: char) -> bool
+    ensures { result ≡ in_number c }
+{
+    unicode_ident::is_xid_continue(c) || c == '.'
+}
+
 /// How many characters in front are white.
 pub fn white_len(left: &[char]) -> usize
-    ensures { result ≡ prefix_len is_ascii_whitespace left.now }
+    ensures value { result ≡ prefix_len is_ascii_whitespace left.now }
+    ensures within { result ≤ length left.now }
 {
     left.iter().take_while(|c| c.is_ascii_whitespace()).count()
 }
 
 /// How many characters stand before LF.
 pub fn line_len(left: &[char]) -> usize
-    ensures { result ≡ prefix_len (λ c. not (c == 10)) left.now }
+    ensures value { result ≡ prefix_len (λ c. not (c == 10)) left.now }
+    ensures within { result ≤ length left.now }
 {
     left.iter().take_while(|c| **c != '\n').count()
 }
 
 /// How many characters stand before LF or CR.
 pub fn rest_of_line(left: &[char]) -> usize
-    ensures { result ≡ prefix_len (λ c. not (spec.ends_line c)) left.now }
+    ensures value { result ≡ prefix_len (λ c. not (spec.ends_line c)) left.now }
+    ensures within { result ≤ length left.now }
 {
     left.iter().take_while(|c| !ends_line(**c)).count()
 }
 
 /// How many characters stand before `"`, LF or CR.
 pub fn rest_of_text(left: &[char]) -> usize
-    ensures { result ≡ prefix_len (λ c. not ((c == 34) || spec.ends_line c)) left.now }
+    ensures value { result ≡ prefix_len (λ c. not ((c == 34) || spec.ends_line c)) left.now }
+    ensures within { result ≤ length left.now }
 {
     left.iter()
         .take_while(|c| !((**c == '"') | ends_line(**c)))
@@ -149,6 +171,14 @@ pub fn rest_of_text(left: &[char]) -> usize
 
 /// The text of these characters.
 pub fn text_of(alloc: Global, letters: &[char]) -> Result<String, AllocError>
+    ensures bytes { IfOk result (λ text. string_bytes text ≡ encode_utf8_all letters.now) }
+    ensures characters { IfOk result (λ text. chars (string_bytes text) ≡ letters.now) }
+{
+    let text = spelled(alloc, letters)?;
+    Ok(text)
+}
+
+fn spelled(alloc: Global, letters: &[char]) -> Result<String, AllocError>
     ensures { IfOk result (λ text. string_bytes text ≡ encode_utf8_all letters.now) }
 {
     letters.iter().copied().collect(alloc)

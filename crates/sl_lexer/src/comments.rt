@@ -13,7 +13,7 @@ pub fn comment_length(left: &[char]) -> Option<usize>
 {
     let mut cursor = Cursor::new(left);
     if scan(&mut cursor) {
-        Some(left.len() - cursor.len())
+        Some(left.len().saturating_sub(cursor.len()))
     } else {
         None
     }

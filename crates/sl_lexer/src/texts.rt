@@ -32,7 +32,8 @@ pub enum TextEnd {
 /// How the text literal ends that begins before these characters.
 pub fn text_end(alloc: Global, left: &[char]) -> Result<TextEnd, AllocError>
     requires { length left.now ≤ 2 ^ 20 }
-    ensures { IfOk result (λ end. end ≡ spec.text_end left.now) }
+    ensures value { IfOk result (λ end. end ≡ spec.text_end left.now) }
+    ensures within { IfOk result (spec.IsClosedWithin left.now) }
 {
     let mut letters = Letters::new(alloc);
     let mut at: usize = 0;
