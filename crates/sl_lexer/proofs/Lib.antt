@@ -2,3 +2,4 @@ pub mod Growing
 pub mod Parts
 pub mod Nested
 pub mod Operators
+pub mod Sizes

@@ -4,3 +4,4 @@ pub mod Class
 pub mod TextLiteral
 pub mod Comment
 pub mod Characters
+pub mod Reading

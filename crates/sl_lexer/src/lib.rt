@@ -1,11 +1,15 @@
-//! The tokens of a text.
+//! The tokens of a text (SLS 1), or its fault.
 #![tactic(auto)]
+
+ghost use Rattle.std.specs.Prelude.{◌≡◌, ℕ, ◌⊎◌, IfOk, IfErr};
+ghost use Rattle.sl_lexer.specs.Lex.{Lex, Fault};
 
 mod characters;
 mod class;
 mod comments;
 mod cursor;
 mod fault;
+mod front;
 mod letters;
 mod piece;
 mod reading;
@@ -13,11 +17,33 @@ mod tables;
 mod texts;
 mod words;
 
-pub use comments::comment_length;
+use characters::behind;
 pub use fault::{LexFault, LexKind};
-pub use class::{Class, class_of};
-pub use characters::{first, behind, front, is_digit, comment_begins, word_len, white_len, line_len, rest_of_line, rest_of_text, text_of};
-pub use piece::Piece;
-pub use reading::read;
-pub use texts::{Part, TextEnd, text_end};
-pub use tables::{KEYWORD_TEXTS, MARK_TEXTS, number_in};
+use front::{Front, no_memory, take};
+use reading::read;
+use sl_ast::Token;
+use sl_text::Text;
+use std::alloc::Global;
+
+/// The tokens of a text. A fault: the longest front that can be read ends at its span, where it stands. `Memory` tells
+/// nothing of the text.
+pub fn lex(alloc: Global, text: &Text) -> Result<Vec<Token>, LexFault>
+    ensures tokens { IfOk result (λ tokens. Lex text.now tokens.items) }
+    ensures fault { IfErr result (λ fault. (fault.kind ≡ LexKind.Memory) ⊎ Fault text.now fault.kind fault.span) }
+{
+    let chars = text.as_slice();
+    let mut front = Front::new(alloc, chars);
+    'piece: loop {
+        match read(alloc, front.low, behind(chars, front.at)) {
+            Err(_) => return Err(no_memory(front.at)),
+            Ok(None) => return Ok(tokens_of(front)),
+            Ok(Some(piece)) => take(chars, &mut front, piece)?,
+        }
+    }
+}
+
+fn tokens_of(front: Front) -> Vec<Token>
+    ensures { result.items ≡ front.tokens.items }
+{
+    front.tokens
+}
