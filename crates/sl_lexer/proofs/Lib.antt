@@ -3,3 +3,4 @@ pub mod Parts
 pub mod Nested
 pub mod Operators
 pub mod Sizes
+pub mod Steps

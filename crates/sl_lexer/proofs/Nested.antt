@@ -84,12 +84,12 @@ unfolding comment_end
 sounds n [] r e = absurd cc
 sounds n (c ∷ []) r e = absurd cc
 sounds n (c ∷ d ∷ cs) r e = elim (decide (closes c (Some d))) [
-    | inl h ↦ closes_now n c d cs r h (λ m f. sounds m cs r f) (rw h at e)
-    | inr h ↦ elim (decide (opens c (Some d))) [
-        | inl k ↦ (let f : comment_end (n + 1) cs ≡ Some r = rw k at (rw h at e) in let s : n + 1 ≡ suc n = omega arith in opens_now n c d cs r k (sounds (suc n) cs r (ap (λ (m : ℕ). comment_end m cs) (sym s) ∙ f)))
-        | inr k ↦ (let f : comment_end n (d ∷ cs) ≡ Some r = rw k at (rw h at e) in lift n (d ∷ cs) (c ∷ d ∷ cs) r (λ b i. inside k h i) (sounds n (d ∷ cs) r f))
-      ]
+  | inl h ↦ closes_now n c d cs r h (λ m f. sounds m cs r f) (rw h at e)
+  | inr h ↦ elim (decide (opens c (Some d))) [
+    | inl k ↦ (let f : comment_end (n + 1) cs ≡ Some r = rw k at (rw h at e) in let s : n + 1 ≡ suc n = omega arith in opens_now n c d cs r k (sounds (suc n) cs r (ap (λ (m : ℕ). comment_end m cs) (sym s) ∙ f)))
+    | inr k ↦ (let f : comment_end n (d ∷ cs) ≡ Some r = rw k at (rw h at e) in lift n (d ∷ cs) (c ∷ d ∷ cs) r (λ b i. inside k h i) (sounds n (d ∷ cs) r f))
   ]
+]
 
 -- what is a comment is found
 pub finds : {a b : List ℕ} → IsComment a b → (n : ℕ) → comment_end n a ≡ (if n == 0 then Some b else comment_end (n - 1) b)

@@ -23,16 +23,8 @@ use Rattle.sl_lexer.specs.declared.piece.Piece.{Piece}
 use Rattle.sl_lexer.specs.declared.piece.Piece.TheVariants as piece
 use Rattle.sl_lexer.specs.declared.fault.LexKind.TheVariants as f
 use Rattle.sl_ast.specs.declared.token.TokenKind.TheVariants as t
+use Rattle.sl_lexer.specs.Reading.{IsWithin}
 use Rattle.sl_lexer.proofs.Parts.{part_size, close_size}
-
--- how many characters a piece has
-abbrev pub size : Piece → ℕ
-size (piece.Blank n) = n
-size (piece.Token kind n) = n
-size (piece.Fault kind n) = n
-
-abbrev pub Within : Piece → ℕ → Type 0
-Within x n = (0 < size x) × (size x ≤ n)
 
 prefix_le : (q : ℕ → Bool) (a : List ℕ) → prefix_len q a ≤ length a
 prefix_le q [] = omega arith
@@ -73,44 +65,44 @@ closed_in (suc m) a v n h = go (part_of a) refl (λ b w k l. closed_in m b w k l
     go p.Wrong i ih h = absurd cc
     go p.End i ih h = absurd cc
 
-choose : (b : Bool) (x y : Piece) (l : ℕ) → Within x l → Within y l → Within (if b then x else y) l
+choose : (b : Bool) (x y : Piece) (l : ℕ) → IsWithin x l → IsWithin y l → IsWithin (if b then x else y) l
 choose true x y l h k = h
 choose false x y l h k = k
 
-text_within : (a : List ℕ) (x : TextEnd) → ((v : List ℕ) (n : ℕ) → x ≡ e.Closed v n → n ≤ length a) → Within (by_end a x) (suc (length a))
+text_within : (a : List ℕ) (x : TextEnd) → ((v : List ℕ) (n : ℕ) → x ≡ e.Closed v n → n ≤ length a) → IsWithin (by_end a x) (suc (length a))
 text_within a (e.Closed v n) h =
     let l = h v n refl in
     choose (nat_lt 10000 (length v)) (piece.Fault f.LongText (1 + n)) (piece.Token (t.Text v) (1 + n)) (suc (length a)) (omega arith, omega (arith, l)) (omega arith, omega (arith, l))
 text_within a e.Wrong h = let l = prefix_le (λ c. not ((c == 34) || ends_line c)) a in (omega arith, omega (arith, l))
 text_within a e.Open h = let l = prefix_le (λ c. not (ends_line c)) a in (omega arith, omega (arith, l))
 
-quote_within : (b : Bool) (a : List ℕ) → Within (if b then piece.Fault f.BadChar 1 else by_end a (text_end a)) (suc (length a))
+quote_within : (b : Bool) (a : List ℕ) → IsWithin (if b then piece.Fault f.BadChar 1 else by_end a (text_end a)) (suc (length a))
 quote_within true a = (omega arith, omega arith)
 quote_within false a = text_within a (text_end a) (λ v n h. closed_in (suc (length a)) a v n h)
 
-word_within : (n : ℕ) (w : List ℕ) (o : Option ℕ) (l : ℕ) → (0 < n) × (n ≤ l) → Within (by_keyword n w o) l
+word_within : (n : ℕ) (w : List ℕ) (o : Option ℕ) (l : ℕ) → (0 < n) × (n ≤ l) → IsWithin (by_keyword n w o) l
 word_within n w (Some i) l h = h
 word_within n w None l h = choose (nat_lt 80 n) (piece.Fault f.LongText n) (piece.Token (t.Id w) n) l h h
 
-mark_within : (n : ℕ) (w : List ℕ) (o : Option ℕ) (l : ℕ) → (0 < n) × (n ≤ l) → Within (by_mark n w o) l
+mark_within : (n : ℕ) (w : List ℕ) (o : Option ℕ) (l : ℕ) → (0 < n) × (n ≤ l) → IsWithin (by_mark n w o) l
 mark_within n w (Some i) l h = h
 mark_within n w None l h = h
 
-number_within : (b : Bool) (c : ℕ) (a : List ℕ) (n : ℕ) (r : Result Numeral NumFault) → (0 < n) × (n ≤ suc (length a)) → Within (if b then wrong_number (c ∷ a) else by_literal (c ∷ a) n r) (suc (length a))
+number_within : (b : Bool) (c : ℕ) (a : List ℕ) (n : ℕ) (r : Result Numeral NumFault) → (0 < n) × (n ≤ suc (length a)) → IsWithin (if b then wrong_number (c ∷ a) else by_literal (c ∷ a) n r) (suc (length a))
 number_within true c a n r h = run_within in_number c a
 number_within false c a n (Ok v) h = h
 number_within false c a n (Err f) h = run_within in_number c a
 
-comment_within : (c : ℕ) (a : List ℕ) → Within (by_comment (c ∷ a) (comment_len (drop 1 a))) (suc (length a))
+comment_within : (c : ℕ) (a : List ℕ) → IsWithin (by_comment (c ∷ a) (comment_len (drop 1 a))) (suc (length a))
 unfolding comment_end
 comment_within c [] = (omega arith, omega arith)
 comment_within c (d ∷ b) = go (comment_end 0 b)
   where
-    go : (o : Option (List ℕ)) → Within (by_comment (c ∷ d ∷ b) (option_map (λ r. length b - length r) o)) (suc (suc (length b)))
+    go : (o : Option (List ℕ)) → IsWithin (by_comment (c ∷ d ∷ b) (option_map (λ r. length b - length r) o)) (suc (suc (length b)))
     go None = (omega arith, omega arith)
     go (Some r) = (omega arith, omega arith)
 
-class_within : (low : Bool) (x : Class) (c : ℕ) (a : List ℕ) → Within (by_class low x (c ∷ a)) (suc (length a))
+class_within : (low : Bool) (x : Class) (c : ℕ) (a : List ℕ) → IsWithin (by_class low x (c ∷ a)) (suc (length a))
 class_within low k.White c a = run_within is_ascii_whitespace c a
 class_within low k.LineComment c a = run_within (λ c. not (c == 10)) c a
 class_within low k.BlockComment c a = comment_within c a
@@ -124,11 +116,11 @@ class_within false k.Operator c a = let l = operator_le a in let n = 1 + operato
 class_within low (k.Single number) c a = (omega arith, omega arith)
 class_within low k.Other c a = (omega arith, omega arith)
 
-pub piece_within : (low : Bool) (a : List ℕ) (x : Piece) → piece_at low a ≡ Some x → Within x (length a)
+pub piece_within : (low : Bool) (a : List ℕ) (x : Piece) → piece_at low a ≡ Some x → IsWithin x (length a)
 piece_within low [] x h = absurd cc
 piece_within low (c ∷ a) x h =
     let i : by_class low (class_of c (first a)) (c ∷ a) ≡ x = some_is _ _ h in
-    subst (λ z. Within z (suc (length a))) i (class_within low (class_of c (first a)) c a)
+    subst (λ z. IsWithin z (suc (length a))) i (class_within low (class_of c (first a)) c a)
   where
     some_is : (x y : Piece) → Some x ≡ Some y → x ≡ y
     some_is x y e = cc

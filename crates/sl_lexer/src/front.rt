@@ -1,13 +1,14 @@
 //! The front of a text that is read.
 
-ghost use Rattle.std.specs.Prelude.{◌≡◌, ◌+◌, ◌<◌, ◌≤◌, ◌^◌, List, ℕ, length, drop, Some, OnOk, OnErr, IfErr};
+ghost use Rattle.std.specs.Prelude.{◌≡◌, ◌+◌, ◌-◌, ◌<◌, ◌≤◌, ◌^◌, [], ◌∷◌, ◌++◌, length, drop, Some, OnOk, IfErr};
 ghost use Rattle.sl_lexer.specs.Piece.{piece_at};
-ghost use Rattle.sl_lexer.specs.Lex.{is_low, most};
-ghost use Rattle.sl_lexer.specs.Reading.{IsRead, IsCause};
+ghost use Rattle.sl_lexer.specs.Lex.{is_low};
+ghost use Rattle.sl_lexer.specs.Reading.{IsRead, IsCause, IsWithin};
 
 use crate::fault::{LexFault, LexKind};
 use crate::piece::Piece;
 use sl_ast::{Token, TokenKind};
+use sl_base::NoMemory;
 use sl_text::Span;
 use std::alloc::Global;
 
@@ -39,6 +40,7 @@ pub fn take(chars: &[char], front: &mut Front, piece: Piece) -> Result<(), LexFa
     requires limit { length chars.now ≤ 2 ^ 20 }
     requires read { IsRead chars.now front.old }
     requires here { piece_at front.old.low (drop front.old.at chars.now) ≡ Some piece }
+    requires size { IsWithin piece (length chars.now - front.old.at) }
     ensures ok { OnOk result (IsRead chars.now front.new) }
     ensures further { OnOk result (front.old.at < front.new.at) }
     ensures err { IfErr result (IsCause chars.now) }
@@ -63,25 +65,43 @@ fn take_token(
     requires limit { length chars.now ≤ 2 ^ 20 }
     requires read { IsRead chars.now front.old }
     requires here { piece_at front.old.low (drop front.old.at chars.now) ≡ Some (Piece.Token kind count) }
+    requires more { 0 < count }
+    requires within { front.old.at + count ≤ length chars.now }
     ensures ok { OnOk result (IsRead chars.now front.new) }
     ensures further { OnOk result (front.old.at < front.new.at) }
     ensures err { IfErr result (IsCause chars.now) }
 {
     let span = span_at(front.at, count);
-    if front.tokens.len() >= MOST_TOKENS {
+    if count_of(&front.tokens) >= MOST_TOKENS {
         return Err(LexFault {
             kind: LexKind::TooMany,
             span,
         });
     }
     let low = is_low(chars, &kind, front.at + count);
-    match front.tokens.push(Token { kind, span }) {
-        Ok(()) => {}
-        Err(_) => return Err(no_memory(front.at)),
+    match push(&mut front.tokens, Token { kind, span }) {
+        Ok(()) => {
+            front.low = low;
+            front.at += count;
+            Ok(())
+        }
+        Err(_) => Err(no_memory(front.at)),
     }
-    front.low = low;
-    front.at += count;
-    Ok(())
+}
+
+fn count_of(tokens: &Vec<Token>) -> usize
+    ensures { result ≡ length tokens.now.items }
+{
+    tokens.len()
+}
+
+fn push(tokens: &mut Vec<Token>, token: Token) -> Result<(), NoMemory>
+    ensures { OnOk result (tokens.new.items ≡ tokens.old.items ++ token ∷ []) }
+{
+    match tokens.push(token) {
+        Ok(()) => Ok(()),
+        Err(_) => Err(NoMemory),
+    }
 }
 
 // Whether the token that ends at `to` is a name whose last character is `_`.

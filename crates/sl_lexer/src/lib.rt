@@ -1,8 +1,10 @@
 //! The tokens of a text (SLS 1), or its fault.
 #![tactic(auto)]
 
-ghost use Rattle.std.specs.Prelude.{◌≡◌, ℕ, ◌⊎◌, IfOk, IfErr};
+ghost use Rattle.std.specs.Prelude.{◌≡◌, ◌<◌, ◌≤◌, ◌^◌, ◌⊎◌, length, IfOk, IfErr, OnOk};
+ghost use Rattle.std.specs.Bool.{MatchBool};
 ghost use Rattle.sl_lexer.specs.Lex.{Lex, Fault};
+ghost use Rattle.sl_lexer.specs.Reading.{IsRead, IsCause};
 
 mod characters;
 mod class;
@@ -33,12 +35,25 @@ pub fn lex(alloc: Global, text: &Text) -> Result<Vec<Token>, LexFault>
 {
     let chars = text.as_slice();
     let mut front = Front::new(alloc, chars);
-    'piece: loop {
-        match read(alloc, front.low, behind(chars, front.at)) {
-            Err(_) => return Err(no_memory(front.at)),
-            Ok(None) => return Ok(tokens_of(front)),
-            Ok(Some(piece)) => take(chars, &mut front, piece)?,
-        }
+    'step: while step(alloc, chars, &mut front)? {}
+    Ok(tokens_of(front))
+}
+
+// Takes the piece that stands at the place, if one does.
+fn step(alloc: Global, chars: &[char], front: &mut Front) -> Result<bool, LexFault>
+    requires limit { length chars.now ≤ 2 ^ 20 }
+    requires read { IsRead chars.now front.old }
+    ensures read { OnOk result (IsRead chars.now front.new) }
+    ensures more { IfOk result (λ more. MatchBool more (front.old.at < front.new.at) (length chars.now ≡ front.new.at)) }
+    ensures err { IfErr result (IsCause chars.now) }
+{
+    match read(alloc, front.low, behind(chars, front.at)) {
+        Err(_) => Err(no_memory(front.at)),
+        Ok(None) => Ok(false),
+        Ok(Some(piece)) => match take(chars, front, piece) {
+            Ok(()) => Ok(true),
+            Err(fault) => Err(fault),
+        },
     }
 }
 

@@ -1,8 +1,9 @@
 //! The piece at a place.
 
-ghost use Rattle.std.specs.Prelude.{◌≡◌, ◌≤◌, ◌^◌, nat_lt, length, drop, IfOk};
+ghost use Rattle.std.specs.Prelude.{◌≡◌, ◌≤◌, ◌^◌, nat_lt, length, drop, IfOk, IfSome};
 ghost use Rattle.std.specs.Str.{chars};
 ghost use Rattle.sl_lexer.specs.Piece.{piece_at, by_class, by_comment, by_end, text_piece};
+ghost use Rattle.sl_lexer.specs.Reading.{IsWithin};
 ghost use Rattle.sl_lexer.specs.Comment.{comment_len};
 ghost use Rattle.sl_lexer.specs.TextLiteral.{IsClosedWithin};
 
@@ -22,7 +23,8 @@ const LONGEST_TEXT: usize = 10_000;
 /// What stands in front. `low`: a name that ends in `_` stands directly before.
 pub fn read(alloc: Global, low: bool, left: &[char]) -> Result<Option<Piece>, AllocError>
     requires { length left.now ≤ 2 ^ 20 }
-    ensures { IfOk result (λ piece. piece ≡ piece_at low left.now) }
+    ensures value { IfOk result (λ piece. piece ≡ piece_at low left.now) }
+    ensures within { IfOk result (λ piece. IfSome piece (λ piece. IsWithin piece (length left.now))) }
 {
     match first(left) {
         None => Ok(None),

@@ -50,7 +50,6 @@ pub const KEYWORD_TEXTS: [&str; 40] = [
 /// The marks before the brackets, in the order of their numbers. All but the first are made of operator characters.
 pub const MARK_TEXTS: [&str; 10] = ["_", ":", "=", "=>", "<-", "<:", "<%", ">:", "#", "@"];
 
-
 /// The number of the text in the table.
 pub fn number_in(table: &[&str], text: &str) -> Option<u8>
     requires { length table.now ≤ 255 }
