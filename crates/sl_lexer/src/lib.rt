@@ -16,6 +16,8 @@ mod letters;
 mod piece;
 mod reading;
 mod tables;
+#[cfg(test)]
+mod tests;
 mod texts;
 mod words;
 
