@@ -1,0 +1,12 @@
+//! Newlines between tokens (SLS 1.2).
+#![tactic(auto)]
+
+mod copies;
+mod cursor;
+mod gaps;
+mod region;
+mod regions;
+mod separating;
+mod stack;
+
+pub use separating::separate;
