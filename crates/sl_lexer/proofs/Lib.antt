@@ -4,3 +4,4 @@ pub mod Nested
 pub mod Operators
 pub mod Sizes
 pub mod Steps
+pub mod Unique

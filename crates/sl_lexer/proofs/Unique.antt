@@ -127,6 +127,9 @@ no_both text ts kind span f g =
     by_wrong {low = low} {at = at} (wrong {kind = k} {n = n} h) a = nothing text low at (piece.Fault k n) a h
     by_wrong {low = low} {at = at} (too_many {kind = t} {n = n} h l) a = nothing text low at (piece.Token t n) a h
 
+abbrev span_of : ℕ → ℕ → Span
+span_of from to = record { from = from; to = to }
+
 pub one_fault : (text : List ℕ) (k l : LexKind) (s t : Span) → Fault text k s → Fault text l t → (k ≡ l) × (s ≡ t)
 one_fault text k l s t f g =
     let e = lex_end f.front (fault_end text k s f) g.front (fault_end text l t g) in
@@ -135,9 +138,6 @@ one_fault text k l s t f g =
     let a : s.from ≡ t.from = ap (λ (z : State). z.at) e in
     let b : s.to ≡ t.to = omega (arith, a, w.1, f.to_is, g.to_is) in
     (w.0, ap (λ (z : ℕ). span_of z s.to) a ∙ ap (λ (z : ℕ). span_of t.from z) b)
-  where
-    abbrev span_of : ℕ → ℕ → Span
-    span_of from to = record { from = from; to = to }
 
 -- ---- and each text is read
 
@@ -161,7 +161,7 @@ comes text zero ts low at l w f = absurd (omega arith)
 comes text (suc k) ts low at l w f = go (piece_at low (drop at text)) refl (λ us low' n a b g. comes text k us low' (at + n) (omega (arith, a, b, l, w)) b g)
   where
     go : (o : Option Piece) → piece_at low (drop at text) ≡ o → ((us : List Token) (low' : Bool) (n : ℕ) → 0 < n → at + n ≤ length text → Front text us low' (at + n) → Comes text) → Comes text
-    go None h ih = inl (ts, low, subst (λ (z : ℕ). Front text ts low z) (sym (at_end text low at w h)) f)
+    go None h ih = inl (ts, (low, subst (λ (z : ℕ). Front text ts low z) (sym (at_end text low at w h)) f))
     go (Some (piece.Blank n)) h ih = let s = piece_within low (drop at text) (piece.Blank n) h in ih ts false n s.0 (omega (arith, s.1, length-drop at text, s.0, w)) (blank f h)
     go (Some (piece.Fault kind n)) h ih = found text ts low at n kind f (wrong h)
     go (Some (piece.Token kind n)) h ih = by_count (order (length ts) most)

@@ -8,7 +8,7 @@ ghost use Rattle.sl_lexer.specs.Comment.{IsComment, comment_end};
 ghost use Rattle.sl_lexer.specs.Lex.{Lex, Fault};
 
 /// Each text has tokens or a fault, and never both; it has one list of tokens, and one fault.
-pub fn reading()
+pub fn lexing()
     ensures some { (text : List ℕ) → ((tokens : List Token) × Lex text tokens) ⊎ ((kind : LexKind) × (span : Span) × Fault text kind span) }
     ensures never_both { (text : List ℕ) (tokens : List Token) (kind : LexKind) (span : Span) → Lex text tokens → Fault text kind span → ⊥ }
     ensures tokens { (text : List ℕ) (ts us : List Token) → Lex text ts → Lex text us → ts ≡ us }

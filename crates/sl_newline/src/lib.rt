@@ -8,5 +8,7 @@ mod region;
 mod regions;
 mod separating;
 mod stack;
+#[cfg(test)]
+mod tests;
 
 pub use separating::separate;
