@@ -1,42 +1,18 @@
-//! Newlines between tokens.
+//! Newlines before a token.
 
-ghost use Rattle.std.specs.Prelude.{◌≡◌, [], ◌∷◌, ◌++◌, OnOk, IfOk};
+ghost use Rattle.std.specs.Prelude.{◌≡◌, [], ◌∷◌, ◌++◌, OnOk};
 ghost use Rattle.std.specs.Option.{option_copied};
 ghost use Rattle.sl_newline.specs.Regions as spec;
-ghost use Rattle.sl_newline.specs.Regions.{Separated};
 
-use crate::copies::copy_token;
-use crate::cursor::Cursor;
 use crate::gaps::newlines_between;
 use crate::region::Region;
-use crate::regions::{can_begin, can_end, enabled, step};
-use crate::stack::Stack;
+use crate::regions::{can_begin, can_end, enabled};
 use sl_ast::{Shape, Token, TokenKind};
 use sl_base::NoMemory;
-use sl_text::{Span, Text};
-use std::alloc::Global;
+use sl_text::Span;
 
-/// The tokens of a text with newlines between them (SLS 1.2).
-pub fn separate(alloc: Global, tokens: &[Token], text: &Text) -> Result<Vec<Token>, NoMemory>
-    ensures { IfOk result (λ out. Separated text.now tokens.now out.items) }
-{
-    let chars = text.as_slice();
-    let mut left = Cursor::new(tokens);
-    let mut open = Stack::new(alloc);
-    let mut found = Vec::new(alloc);
-    let mut last: Option<&Token> = None;
-    'turn: while let Some(token) = left.peek() {
-        left.skip();
-        put_before(&mut found, chars, open.front(), last, token, left.shape())?;
-        push(&mut found, copy_token(alloc, token)?)?;
-        step(&mut open, token.kind.shape(), left.shape())?;
-        last = Some(token);
-    }
-    Ok(found)
-}
-
-// Puts the newlines before a token.
-fn put_before(
+/// Puts the newlines before a token.
+pub fn put_before(
     found: &mut Vec<Token>,
     chars: &[char],
     region: Option<Region>,
@@ -84,7 +60,8 @@ fn newline_at(at: u32) -> Token
     }
 }
 
-fn push(tokens: &mut Vec<Token>, token: Token) -> Result<(), NoMemory>
+/// Puts a token at the end.
+pub fn push(tokens: &mut Vec<Token>, token: Token) -> Result<(), NoMemory>
     ensures { OnOk result (tokens.new.items ≡ tokens.old.items ++ token ∷ []) }
 {
     match tokens.push(token) {

@@ -2,7 +2,7 @@ use Rattle.std.proofs.Common.{◌≡◌, length, List, ◌++◌, None}
 use Rattle.std.specs.Option.{option_copied}
 use Rattle.sl_ast.specs.declared.token.Token.{Token}
 use Rattle.sl_newline.proofs.Turn.{Kept}
-use Rattle.sl_newline.proofs.separating.separate.Given as goal
+use Rattle.sl_newline.proofs.separate.Given as goal
 
 abbrev pub invariant-turn : goal.invariant-turn
 invariant-turn l = Kept l.chars l.fn.tokens l.open l.left l.found.items (option_copied l.last)

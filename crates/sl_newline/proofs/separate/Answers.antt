@@ -3,7 +3,7 @@ use Rattle.std.specs.Option.{option_copied}
 use Rattle.sl_newline.specs.Regions.{head, Sep}
 use Rattle.sl_newline.proofs.Opened.{started}
 use Rattle.sl_newline.proofs.Turn.{turn, at_end}
-use Rattle.sl_newline.proofs.separating.separate.Goals as goal
+use Rattle.sl_newline.proofs.separate.Goals as goal
 
 pub turn-init : goal.turn-init
 turn-init c = rw (c.new-open.ensures, c.new-left.ensures, c.new-found.ensures.items) (started c.args.tokens.now, λ out i. i)
