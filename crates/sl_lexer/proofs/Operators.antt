@@ -1,5 +1,5 @@
 -- Operators grow by a character.
-use Rattle.std.proofs.Common.{◌≡◌, ℕ, ◌+◌, Bool, true, false, cond, List, [], ◌∷◌, drop, length, Option, Some, None, refl, sym, ap, ◌∙◌, arith}
+use Rattle.std.proofs.Common.{◌≡◌, ℕ, ◌+◌, Bool, true, false, cond, List, [], ◌∷◌, drop, length, Some, None, refl, ap, ◌∙◌, arith}
 use Rattle.sl_lexer.specs.Characters.{first, goes_on, operator_len}
 
 pub none : (a : List ℕ) → first a ≡ None → operator_len a ≡ 0

@@ -1,5 +1,5 @@
 -- Each piece has a character, and no more than there are.
-use Rattle.std.proofs.Common.{◌≡◌, ℕ, zero, suc, ◌+◌, ◌-◌, ◌<◌, ◌≤◌, Bool, true, false, cond, List, [], ◌∷◌, length, drop, take, Option, Some, None, Result, Ok, Err, refl, sym, ap, subst, ◌∙◌, arith, length-drop, encode_utf8_all}
+use Rattle.std.proofs.Common.{◌≡◌, ℕ, zero, suc, ◌+◌, ◌-◌, ◌<◌, ◌≤◌, Bool, true, false, cond, List, [], ◌∷◌, length, drop, take, Option, Some, None, Result, Ok, Err, refl, subst, arith, length-drop, encode_utf8_all}
 use Rattle.std.specs.Prelude.{◌==◌, ◌&&◌, ◌||◌, not, nat_lt, if◌then◌else◌}
 use Rattle.std.specs.Option.{option_map}
 use Rattle.std.specs.List.{prefix_len}
@@ -12,7 +12,7 @@ use Rattle.sl_lexer.specs.Characters.{first, is, ends_line, goes_on, operator_le
 use Rattle.sl_lexer.specs.Comment.{comment_end, comment_len}
 use Rattle.sl_lexer.specs.TextLiteral.{part_of, with_char, by_part, text_in, text_end}
 use Rattle.sl_lexer.specs.Class.{class_of}
-use Rattle.sl_lexer.specs.Piece.{keyword, mark, run, by_keyword, by_mark, fraction, in_number, wrong_number, by_literal, by_end, by_comment, by_class, piece_by, piece_at}
+use Rattle.sl_lexer.specs.Piece.{keyword, mark, run, by_keyword, by_mark, fraction, in_number, wrong_number, by_literal, by_end, by_comment, by_class, piece_at}
 use Rattle.sl_lexer.specs.declared.texts.Part.{Part}
 use Rattle.sl_lexer.specs.declared.texts.Part.TheVariants as p
 use Rattle.sl_lexer.specs.declared.texts.TextEnd.{TextEnd}

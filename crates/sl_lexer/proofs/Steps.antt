@@ -1,5 +1,5 @@
 -- A front that is read grows by a piece, or a fault stands behind it.
-use Rattle.std.proofs.Common.{◌≡◌, ℕ, zero, suc, ◌+◌, ◌-◌, ◌<◌, ◌≤◌, Bool, true, false, List, [], ◌∷◌, ◌++◌, length, drop, Option, Some, None, refl, sym, ap, subst, ◌∙◌, arith, inl, inr, ◌⊎◌, length-drop, length-append}
+use Rattle.std.proofs.Common.{◌≡◌, ℕ, ◌+◌, ◌<◌, ◌≤◌, Bool, List, [], ◌∷◌, ◌++◌, length, drop, Some, None, refl, sym, ap, subst, ◌∙◌, arith, inr, length-drop, length-append}
 use Rattle.sl_text.specs.declared.span.Span.{Span}
 use Rattle.sl_ast.specs.declared.token.Token.{Token}
 use Rattle.sl_ast.specs.declared.token.TokenKind.{TokenKind}
@@ -7,7 +7,7 @@ use Rattle.sl_lexer.specs.declared.fault.LexKind.{LexKind}
 use Rattle.sl_lexer.specs.declared.fault.LexKind.TheVariants.{TooMany}
 use Rattle.sl_lexer.specs.declared.piece.Piece.TheVariants as piece
 use Rattle.sl_lexer.specs.Piece.{piece_at}
-use Rattle.sl_lexer.specs.Lex.{is_low, most, Front, start, blank, token, Wrong, wrong, too_many, Fault}
+use Rattle.sl_lexer.specs.Lex.{is_low, most, Front, start, blank, token, Wrong, wrong, too_many}
 use Rattle.sl_lexer.specs.Reading.{IsCause}
 
 -- no more tokens than there may be

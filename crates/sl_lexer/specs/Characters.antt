@@ -1,5 +1,5 @@
 -- Lists of characters, and what a character may begin, continue or end (SLS 1.1, 1.2).
-use Rattle.std.specs.Prelude.{ℕ, ◌+◌, ◌==◌, ◌&&◌, ◌||◌, not, Bool, true, false, List, [], ◌∷◌, Option, Some, None, codes, cond}
+use Rattle.std.specs.Prelude.{ℕ, ◌+◌, ◌==◌, ◌&&◌, ◌||◌, not, Bool, false, List, [], ◌∷◌, Option, Some, None, codes, cond}
 use Rattle.std.specs.List.{list_any}
 
 -- the first character of a list

@@ -1,6 +1,6 @@
 -- What stands at a place of a text: white space, a comment, a token or a fault (SLS 1). Faults come first: a piece is a
 -- token only where no fault stands.
-use Rattle.std.specs.Prelude.{ℕ, suc, ◌+◌, ◌==◌, ◌&&◌, ◌||◌, not, nat_lt, Bool, true, false, List, [], ◌∷◌, drop, take, length, Option, Some, None, Result, Ok, Err, if◌then◌else◌, position, encode_utf8_all}
+use Rattle.std.specs.Prelude.{ℕ, ◌+◌, ◌==◌, ◌&&◌, ◌||◌, not, nat_lt, Bool, List, drop, take, length, Option, Some, None, Result, Ok, Err, if◌then◌else◌, position, encode_utf8_all}
 use Rattle.std.specs.List.{prefix_len}
 use Rattle.std.specs.Str.{bytes_eq}
 use Rattle.std.specs.Char.{is_ascii_whitespace, is_ascii_digit}
@@ -8,7 +8,6 @@ use Rattle.unicode_ident.specs.Ident.{is_xid_continue}
 use Rattle.sl_num.specs.Literal.{literal}
 use Rattle.sl_num.specs.declared.number.Numeral.{Numeral}
 use Rattle.sl_num.specs.declared.number.NumFault.{NumFault}
-use Rattle.sl_ast.specs.declared.token.TokenKind.{TokenKind}
 use Rattle.sl_ast.specs.declared.token.TokenKind.TheVariants as kind
 use Rattle.sl_lexer.specs.declared.fault.LexKind.TheVariants as fault
 use Rattle.sl_lexer.specs.declared.piece.Piece.{Piece}

@@ -1,4 +1,4 @@
-use Rattle.std.proofs.Common.{◌≡◌, ◌-◌, length}
+use Rattle.std.proofs.Common.{◌-◌, length}
 use Rattle.sl_lexer.specs.Reading.{IsRead}
 use Rattle.sl_lexer.proofs.lex.Given as goal
 

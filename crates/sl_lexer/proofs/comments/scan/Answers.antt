@@ -1,5 +1,4 @@
-use Rattle.std.proofs.Common.{◌≡◌, ◌≤◌, ◌+◌, ◌-◌, ℕ, List, Option, true, false, None, Some, length, drop, sym, ◌∙◌, ap, subst, refl, rules, arith}
-use Rattle.std.specs.Prelude.{MatchOption}
+use Rattle.std.proofs.Common.{◌≡◌, true, false, Some, drop, sym, ◌∙◌, ap, refl, arith}
 use Rattle.sl_lexer.specs.Characters.{first}
 use Rattle.sl_lexer.specs.Comment.{closes, opens, comment_end}
 use Rattle.sl_lexer.proofs.Nested.{last, closed_one, at_open, at_other, no_char, two_less, some_closes, some_opens}

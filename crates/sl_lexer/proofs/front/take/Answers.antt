@@ -1,4 +1,4 @@
-use Rattle.std.proofs.Common.{◌≡◌, ◌+◌, ◌≤◌, ◌-◌, length, drop, Some, sym, ap, subst, ◌∙◌, arith}
+use Rattle.std.proofs.Common.{◌≡◌, ◌-◌, length, drop, Some, sym, ap, subst, ◌∙◌, arith}
 use Rattle.sl_lexer.specs.declared.piece.Piece.{Piece}
 use Rattle.sl_lexer.specs.declared.piece.Piece.TheVariants as piece
 use Rattle.sl_lexer.specs.declared.fault.LexFault.{LexFault}

@@ -1,4 +1,4 @@
-use Rattle.std.proofs.Common.{◌≡◌, ◌<◌, ◌≤◌, length, sym, subst, ◌∙◌, arith}
+use Rattle.std.proofs.Common.{◌<◌, ◌≤◌, length, arith}
 use Rattle.sl_lexer.specs.Lex.{most}
 use Rattle.sl_lexer.proofs.Steps.{token_read, too_many_here}
 use Rattle.sl_lexer.proofs.front.take_token.Goals as goal

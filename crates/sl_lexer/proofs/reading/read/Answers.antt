@@ -1,8 +1,5 @@
-use Rattle.std.proofs.Common.{◌≡◌, Some, sym, ap, ◌∙◌, rules}
-use Rattle.sl_lexer.specs.Characters.{first}
-use Rattle.sl_lexer.specs.Piece.{piece_at, piece_by, by_class}
-use Rattle.sl_lexer.specs.Class.{class_of}
-use Rattle.sl_lexer.specs.declared.piece.Piece.{Piece}
+use Rattle.std.proofs.Common.{◌≡◌, Some, sym, rules}
+use Rattle.sl_lexer.specs.Piece.{piece_at}
 use Rattle.sl_lexer.proofs.Sizes.{piece_within}
 use Rattle.sl_lexer.proofs.reading.read.Goals as goal
 

@@ -1,4 +1,4 @@
-use Rattle.std.proofs.Common.{◌≡◌, ◌<◌, ◌≤◌, ◌+◌, ◌-◌, length, drop, sym, ap, ◌∙◌, arith, length-drop}
+use Rattle.std.proofs.Common.{◌≡◌, ◌<◌, ◌+◌, ◌-◌, length, drop, sym, ap, ◌∙◌, arith, length-drop}
 use Rattle.sl_lexer.specs.TextLiteral.{part_of}
 use Rattle.sl_lexer.specs.declared.texts.Part.TheVariants as p
 use Rattle.sl_lexer.proofs.Parts.{part_size, close_size, started, more, at_close, at_wrong, at_open}

@@ -1,4 +1,4 @@
-use Rattle.std.proofs.Common.{◌≡◌, false, [], List, sym, subst, arith}
+use Rattle.std.proofs.Common.{false, List, sym, subst, arith}
 use Rattle.sl_ast.specs.declared.token.Token.{Token}
 use Rattle.sl_lexer.specs.Lex.{Front, start}
 use Rattle.sl_lexer.proofs.front.Front.new.Goals as goal
