@@ -1,5 +1,5 @@
 -- The characters between two tokens: whether a line ends there, and whether a line of white space alone stands there.
-use Rattle.std.specs.Prelude.{ℕ, ◌-◌, ◌==◌, ◌&&◌, ◌||◌, Bool, true, false, List, [], ◌∷◌, take, drop, if◌then◌else◌}
+use Rattle.std.specs.Prelude.{ℕ, ◌-◌, ◌==◌, ◌&&◌, ◌||◌, Bool, false, List, [], ◌∷◌, take, drop, if◌then◌else◌}
 use Rattle.std.specs.List.{list_any}
 use Rattle.sl_text.specs.declared.span.Span.{Span}
 

@@ -1,6 +1,5 @@
 -- Where newlines are enabled, by matching brackets on the list of tokens; and which stand between two tokens (SLS 1.2).
 use Rattle.std.specs.Prelude.{◌≡◌, ℕ, ◌==◌, ◌&&◌, Bool, true, false, List, [], ◌∷◌, ◌++◌, Option, Some, None, if◌then◌else◌}
-use Rattle.sl_text.specs.declared.span.Span.{Span}
 use Rattle.sl_ast.specs.declared.token.Token.{Token}
 use Rattle.sl_ast.specs.declared.token.TokenKind.TheVariants.{Newline}
 use Rattle.sl_ast.specs.declared.shape.Shape.{Shape}

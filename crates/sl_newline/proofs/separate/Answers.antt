@@ -1,4 +1,4 @@
-use Rattle.std.proofs.Common.{◌≡◌, ℕ, List, Some, None, sym, subst, ◌∙◌}
+use Rattle.std.proofs.Common.{◌≡◌, ℕ, List, Some, None, sym, subst}
 use Rattle.std.specs.Option.{option_copied}
 use Rattle.sl_newline.specs.Regions.{head, Sep}
 use Rattle.sl_newline.proofs.Opened.{started}

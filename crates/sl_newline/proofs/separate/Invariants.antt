@@ -1,6 +1,5 @@
-use Rattle.std.proofs.Common.{◌≡◌, length, List, ◌++◌, None}
+use Rattle.std.proofs.Common.{length}
 use Rattle.std.specs.Option.{option_copied}
-use Rattle.sl_ast.specs.declared.token.Token.{Token}
 use Rattle.sl_newline.proofs.Turn.{Kept}
 use Rattle.sl_newline.proofs.separate.Given as goal
 

@@ -1,5 +1,4 @@
-use Rattle.std.proofs.Common.{◌≡◌, true, false, length, drop, sym, ap, ◌∙◌, arith}
-use Rattle.sl_newline.specs.Gaps.{has_blank_line, ends_blank}
+use Rattle.std.proofs.Common.{◌≡◌, length, drop, sym, ap, ◌∙◌, arith}
 use Rattle.sl_newline.proofs.Blank.{blank_from, begins, hit, passed, at_end}
 use Rattle.sl_newline.proofs.gaps.blank_line.Goals as goal
 
