@@ -1,0 +1,49 @@
+//! What instructions and steps come to.
+
+use crate::target::Target;
+use crate::value::Value;
+
+/// Why a step can't be made.
+#[derive(Clone, Copy, Debug, PartialEq, Eq)]
+pub enum StuckKind {
+    /// Too few operands, or no room for one more.
+    Stack,
+    /// No such local.
+    LocalOut,
+    /// An operand of another kind than is wanted, or an entry of the constant pool.
+    WrongKind,
+    /// No instruction at the place.
+    PcOut,
+    /// No method is selected, or it has no code and isn't built in.
+    NoMethod,
+}
+
+/// What an instruction does beside changing its frame.
+#[derive(Clone, Copy, Debug)]
+pub enum Effect {
+    /// The next instruction of the frame follows.
+    Done,
+    /// It touches what threads share.
+    AtHeap,
+    Stuck(StuckKind),
+    /// A method is called, with so many operands as arguments.
+    Call {
+        target: Target,
+        count: u32,
+    },
+    /// The method ends, with a value or without.
+    Return(Option<Value>),
+    Throw(Value),
+}
+
+/// What came of a local step.
+#[derive(Clone, Copy, Debug)]
+pub enum LocalStep {
+    Stepped,
+    /// The next step touches what threads share.
+    AtHeap,
+    /// The thread has no frame left.
+    Ended,
+    Stuck(StuckKind),
+    Memory,
+}
