@@ -2,3 +2,4 @@ pub mod Values
 pub mod Held
 pub mod Lends
 pub mod Actions
+pub mod Instructions

@@ -3,8 +3,8 @@ use Rattle.std.specs.Prelude.{ℕ, ℤ, pos, ◌+◌, ◌&&◌, Bool, true, fals
 use Rattle.std.specs.Ordering.{int_eq}
 use Rattle.vm_state.specs.declared.value.Value.{Value}
 use Rattle.vm_state.specs.declared.value.Value.TheVariants.{Int, Long, Null, Ref, Text, BoxInt, BoxLong, BoxBool, BoxUnit, Latch, Evaluating, NullValue}
-use Rattle.vm_state.specs.declared.kind.Kind.{Kind}
-use Rattle.vm_state.specs.declared.kind.Kind.TheVariants as kind
+use Rattle.cf_link.specs.declared.value_kind.ValueKind.{ValueKind}
+use Rattle.cf_link.specs.declared.value_kind.ValueKind.TheVariants as kind
 
 -- the places that a value takes among operands and locals
 abbrev pub width : Value → ℕ
@@ -17,7 +17,7 @@ depth [] = 0
 depth (v ∷ vs) = depth vs + width v
 
 -- the places that a value of a kind takes
-abbrev pub kind_width : Kind → ℕ
+abbrev pub kind_width : ValueKind → ℕ
 kind_width kind.Long = 2
 kind_width _ = 1
 
@@ -29,20 +29,20 @@ abbrev pub as_long : Value → Option ℤ
 as_long (Long n) = Some n
 as_long _ = None
 
-abbrev pub is_int : Kind → Bool
+abbrev pub is_int : ValueKind → Bool
 is_int kind.Int = true
 is_int _ = false
 
-abbrev pub is_long : Kind → Bool
+abbrev pub is_long : ValueKind → Bool
 is_long kind.Long = true
 is_long _ = false
 
-abbrev pub is_ref : Kind → Bool
-is_ref kind.Ref = true
+abbrev pub is_ref : ValueKind → Bool
+is_ref kind.Reference = true
 is_ref _ = false
 
 -- the value is of the kind: an Int, a Long, or what stands in a reference's place
-abbrev pub is_kind : Kind → Value → Bool
+abbrev pub is_kind : ValueKind → Value → Bool
 is_kind k (Int n) = is_int k
 is_kind k (Long n) = is_long k
 is_kind k _ = is_ref k
@@ -50,6 +50,10 @@ is_kind k _ = is_ref k
 abbrev pub is_null : Value → Bool
 is_null Null = true
 is_null _ = false
+
+abbrev pub is_text : Value → Bool
+is_text (Text at) = true
+is_text _ = false
 
 -- which variant a value is
 abbrev pub tag : Value → ℕ

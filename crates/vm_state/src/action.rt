@@ -1,6 +1,6 @@
 //! What opcodes do, by families.
 
-use crate::kind::Kind;
+use cf_link::ValueKind;
 use sl_num::IntOp;
 
 /// A comparison with 0, or of two Ints.
@@ -52,10 +52,10 @@ pub enum Action {
     /// Pushes a constant of the pool.
     PushConstant,
     /// Of the local that the instruction names.
-    Load(Kind),
-    LoadAt(Kind, u32),
-    Store(Kind),
-    StoreAt(Kind, u32),
+    Load(ValueKind),
+    LoadAt(ValueKind, u32),
+    Store(ValueKind),
+    StoreAt(ValueKind, u32),
     /// Takes so many places off.
     Pop(u32),
     /// Copies the top places, the first number of them, below the next ones, the second number of them.
@@ -82,7 +82,7 @@ pub enum Action {
     IfNull(bool),
     Goto,
     /// Ends the method with a value of this kind.
-    Give(Kind),
+    Give(ValueKind),
     Leave,
     AtHeap(HeapAction),
     Invoke(Invocation),

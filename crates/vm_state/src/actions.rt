@@ -5,7 +5,7 @@ ghost use Rattle.vm_state.specs.Actions.{action_among, action_of};
 
 use crate::action::{Action, Comparison, Division, HeapAction, Invocation};
 use crate::action_rows;
-use crate::kind::Kind;
+use cf_link::ValueKind;
 use sl_num::IntOp;
 
 /// An opcode and what it does.

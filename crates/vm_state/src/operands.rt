@@ -116,6 +116,14 @@ impl Operands {
         self.items.push_reserved(v);
     }
 
+    /// Whether they take so many places or more.
+    #[inline]
+    pub fn is_deep(&self, places: usize) -> bool
+        ensures { result ≡ nat_le places (depth self.now.values) }
+    {
+        places <= self.taken
+    }
+
     /// Takes two values off, and puts one on top.
     #[inline]
     pub fn replace_two(&mut self, v: Value)
@@ -128,7 +136,7 @@ impl Operands {
         self.push(v);
     }
 
-    /// Puts these two in the place of the top ones, the same in the other order.
+    /// Puts the top two in the other order.
     #[inline]
     pub fn turn(&mut self, top: Value, under: Value)
         requires { self.old.values ≡ under ∷ top ∷ drop 2 self.old.values }

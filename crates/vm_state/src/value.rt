@@ -1,9 +1,9 @@
 //! Values.
 
 ghost use Rattle.std.specs.Prelude.{◌≡◌};
-ghost use Rattle.vm_state.specs.Values.{width, as_int, as_long, is_kind, tag, content, is_same, kind_width};
+ghost use Rattle.vm_state.specs.Values.{width, as_int, as_long, is_kind, is_null, is_text, tag, content, is_same, kind_width};
 
-use crate::kind::Kind;
+use cf_link::ValueKind;
 
 /// A value of a local, an operand, a field or a static (JVMS 2.2). `Text`, `Latch` and `Ref` hold numbers in the heap.
 #[derive(Clone, Copy, Debug)]
@@ -66,22 +66,42 @@ impl Value {
 
     /// Whether it is of this kind.
     #[inline]
-    pub fn is_kind(self, kind: Kind) -> bool
+    pub fn is_kind(self, kind: ValueKind) -> bool
         ensures { result ≡ is_kind kind self }
     {
         match self {
             Value::Int(_) => match kind {
-                Kind::Int => true,
+                ValueKind::Int => true,
                 _ => false,
             },
             Value::Long(_) => match kind {
-                Kind::Long => true,
+                ValueKind::Long => true,
                 _ => false,
             },
             _ => match kind {
-                Kind::Ref => true,
+                ValueKind::Reference => true,
                 _ => false,
             },
+        }
+    }
+
+    #[inline]
+    pub fn is_null(self) -> bool
+        ensures { result ≡ is_null self }
+    {
+        match self {
+            Value::Null => true,
+            _ => false,
+        }
+    }
+
+    #[inline]
+    pub fn is_text(self) -> bool
+        ensures { result ≡ is_text self }
+    {
+        match self {
+            Value::Text(_) => true,
+            _ => false,
         }
     }
 
@@ -134,15 +154,13 @@ impl Value {
     }
 }
 
-impl Kind {
-    /// How many places a value of this kind takes.
-    #[inline]
-    pub fn width(self) -> usize
-        ensures { result ≡ kind_width self }
-    {
-        match self {
-            Kind::Long => 2,
-            _ => 1,
-        }
+/// How many places a value of this kind takes.
+#[inline]
+pub fn kind_width(kind: ValueKind) -> usize
+    ensures { result ≡ kind_width kind }
+{
+    match kind {
+        ValueKind::Long => 2,
+        _ => 1,
     }
 }
