@@ -104,13 +104,13 @@ abbrev pub one_place : List Value → Option ℕ
 one_place [] = None
 one_place (v ∷ vs) = if is_kind kind.Long v then None else Some 1
 
+abbrev pub one_more : Option ℕ → Option ℕ
+one_more None = None
+one_more (Some n) = Some (n + 1)
+
 abbrev pub two_places : List Value → Option ℕ
 two_places [] = None
-two_places (v ∷ vs) = if is_kind kind.Long v then Some 1 else option_plus_one (one_place vs)
-  where
-  abbrev option_plus_one : Option ℕ → Option ℕ
-  option_plus_one None = None
-  option_plus_one (Some n) = Some (n + 1)
+two_places (v ∷ vs) = if is_kind kind.Long v then Some 1 else one_more (one_place vs)
 
 -- how many values the top places are, one or two of them; None where they are no whole values
 abbrev pub whole : ℕ → List Value → Option ℕ
