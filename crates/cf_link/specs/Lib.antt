@@ -1,0 +1,7 @@
+-- What a reader must believe, in this order.
+pub mod Descriptors
+pub mod Classes
+pub mod Selection
+pub mod Layout
+pub mod Resolution
+pub mod Linked

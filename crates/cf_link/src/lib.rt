@@ -1,0 +1,28 @@
+//! Class files linked into one set (JVMS 5.3, 5.4).
+#![tactic(auto)]
+
+pub mod built_in;
+mod classes;
+mod fault;
+mod linked;
+mod linked_class;
+mod member;
+mod native;
+mod reference;
+mod selection;
+mod table;
+mod value_kind;
+
+pub use classes::{
+    chain_of, conforms, fields_of, is_abstract, is_in, is_interface, is_static, line_of, method_at,
+    methods_of, slots_of, statics_of,
+};
+pub use fault::{LinkFault, LinkKind};
+pub use linked::Linked;
+pub use linked_class::LinkedClass;
+pub use member::{LinkedField, LinkedMethod, Slot};
+pub use native::Native;
+pub use reference::LinkedRef;
+pub use selection::{chosen, selected};
+pub use table::{Face, Table};
+pub use value_kind::ValueKind;
