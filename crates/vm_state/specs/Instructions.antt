@@ -98,30 +98,34 @@ abbrev pub at_local : (ℕ → After) → Frame → Option ℕ → After
 at_local g f None = same f (Stuck LocalOut)
 at_local g f (Some n) = g n
 
--- ---- operands moved about. Which values the top places are: a Long is never halved.
+-- ---- operands moved about. Which values the places are: a Long is never halved.
 
-abbrev pub one_place : List Value → Option ℕ
-one_place [] = None
-one_place (v ∷ vs) = if is_kind kind.Long v then None else Some 1
+abbrev pub one_place : Option Value → Option ℕ
+one_place None = None
+one_place (Some v) = if is_kind kind.Long v then None else Some 1
 
 abbrev pub one_more : Option ℕ → Option ℕ
 one_more None = None
 one_more (Some n) = Some (n + 1)
 
-abbrev pub two_places : List Value → Option ℕ
-two_places [] = None
-two_places (v ∷ vs) = if is_kind kind.Long v then Some 1 else one_more (one_place vs)
+abbrev pub two_places : Option Value → Option Value → Option ℕ
+two_places None w = None
+two_places (Some v) w = if is_kind kind.Long v then Some 1 else one_more (one_place w)
 
--- how many values the top places are, one or two of them; None where they are no whole values
-abbrev pub whole : ℕ → List Value → Option ℕ
-whole n vs = if nat_eq n 1 then one_place vs else (if nat_eq n 2 then two_places vs else Some 0)
+-- how many values the places are, one of them or two, from the operand with this number on; None where they are no whole
+-- values
+abbrev pub whole : ℕ → List Value → ℕ → Option ℕ
+whole n vs from =
+    if nat_eq n 1
+    then one_place (slice_get vs from)
+    else (if nat_eq n 2 then two_places (slice_get vs from) (slice_get vs (from + 1)) else Some 0)
 
 abbrev pub popped : Frame → List Value → Option ℕ → After
 popped f vs None = same f (Stuck WrongKind)
 popped f vs (Some count) = next f (drop count vs)
 
 abbrev pub pop : ℕ → Frame → List Value → After
-pop n f vs = if nat_le n (depth vs) then popped f vs (whole n vs) else same f (Stuck Stack)
+pop n f vs = if nat_le n (depth vs) then popped f vs (whole n vs 0) else same f (Stuck Stack)
 
 -- these operands with copies of the first of them, this many, below the first so many
 abbrev pub with_copies : ℕ → ℕ → List Value → List Value
@@ -134,11 +138,11 @@ dupped_under f vs n count (Some more) =
 
 abbrev pub dupped : Frame → List Value → ℕ → ℕ → Option ℕ → After
 dupped f vs n m None = same f (Stuck WrongKind)
-dupped f vs n m (Some count) = dupped_under f vs n count (whole m (drop count vs))
+dupped f vs n m (Some count) = dupped_under f vs n count (whole m vs count)
 
 -- the top n places are copied below the m under them
 abbrev pub dup : ℕ → ℕ → Frame → List Value → After
-dup n m f vs = if nat_le (n + m) (depth vs) then dupped f vs n m (whole n vs) else same f (Stuck Stack)
+dup n m f vs = if nat_le (n + m) (depth vs) then dupped f vs n m (whole n vs 0) else same f (Stuck Stack)
 
 abbrev pub swap : Frame → List Value → After
 swap f (a ∷ b ∷ vs) =

@@ -3,3 +3,5 @@ pub mod Held
 pub mod Lends
 pub mod Actions
 pub mod Instructions
+pub mod Methods
+pub mod Local

@@ -46,10 +46,9 @@ impl Operands {
         self.items.len()
     }
 
-    /// Whether a value of this width fits.
+    /// Whether there is room for so many places more.
     #[inline]
     pub fn fits(&self, width: usize) -> bool
-        requires { width ≤ 2 }
         ensures { IsTrue result ↔ (depth self.now.values + width ≤ self.now.room) }
     {
         width <= self.room - self.taken

@@ -1,0 +1,20 @@
+//! Instructions that touch their own thread's frames alone (JVMS 6.5).
+#![tactic(auto)]
+
+mod acting;
+mod arithmetic;
+mod calls;
+mod classes;
+mod ends;
+mod entering;
+mod jumps;
+mod linkage;
+mod local_step;
+mod locals;
+mod moves;
+mod pushes;
+mod returning;
+mod unwinding;
+
+pub use acting::{instruct, instruct_in};
+pub use local_step::local;
