@@ -1,9 +1,10 @@
 -- Operands with copies of some of them.
-use Rattle.std.proofs.Common.{◌≡◌, ℕ, zero, suc, ◌+◌, ◌≤◌, Bool, true, false, if◌then◌else◌, List, [], ◌∷◌, ◌++◌, length, take, drop, Option, Some, None, refl, sym, ap, ◌∙◌, append_assoc, add-one, arith}
+use Rattle.std.proofs.Common.{◌≡◌, ℕ, zero, suc, ◌+◌, ◌<◌, ◌≤◌, Bool, true, false, if◌then◌else◌, List, [], ◌∷◌, ◌++◌, length, take, drop, Option, Some, None, IfSome, refl, sym, ap, ◌∙◌, append_assoc, add-one, arith}
 use Rattle.std.specs.Prelude.{slice_get, nat_eq}
 use Rattle.std.proofs.lemmas.Bool.Decides.{nat_tests}
 use Rattle.vm_state.specs.declared.value.Value.{Value}
 use Rattle.vm_state.specs.declared.value.Value.TheVariants.{Int, Long, Null, Ref, Text, BoxInt, BoxLong, BoxBool, BoxUnit, Latch, Evaluating, NullValue}
+use Rattle.vm_state.specs.Held.{Held}
 use Rattle.vm_state.specs.Values.{width, depth}
 use Rattle.vm_state.specs.Instructions.{one_place, one_more, two_places, whole, with_copies}
 
@@ -13,7 +14,7 @@ depth_insert zero v (x ∷ vs) = refl
 depth_insert (suc n) v [] = refl
 depth_insert (suc n) v (x ∷ vs) = omega (arith, depth_insert n v vs)
 
-abbrev insert_at : ℕ → Value → List Value → List Value
+abbrev pub insert_at : ℕ → Value → List Value → List Value
 insert_at n v vs = take n vs ++ (v ∷ drop n vs)
 
 pub length_insert : (n : ℕ) (v : Value) (vs : List Value) → length (take n vs ++ (v ∷ drop n vs)) ≡ length vs + 1
@@ -140,3 +141,12 @@ whole_length n vs from count there = by_tests (nat_eq n 1) (nat_eq n 2)
   by_tests true two e = one_length vs from count e
   by_tests false true e = two_length vs from count (rw add-one at e)
   by_tests false false e = let none : count ≡ 0 = cc in omega (arith, none, there)
+
+pub whole_more : (n m : ℕ) (vs : List Value) (count : ℕ) (found : Option ℕ) → whole n vs 0 ≡ Some count → found ≡ whole m vs count → IfSome found (λ more. more < 3) → IfSome found (λ more. (more < 3) × (count + more ≤ length vs))
+whole_more n m vs count None e f few = tt
+whole_more n m vs count (Some more) e f few =
+    let there = whole_length n vs 0 count (omega arith) e in
+    (few, whole_length m vs count more (omega arith) (sym f))
+
+abbrev pub held : List Value → ℕ → Held
+held vs room = record { values = vs; room = room }

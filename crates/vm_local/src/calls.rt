@@ -94,8 +94,10 @@ fn receive(
 pub fn are_arguments(kinds: &[ValueKind], stack: &Operands) -> bool
     ensures { result ≡ are_arguments kinds.now stack.now.values }
 {
-    for i in 0..kinds.len() {
-        if !is_of(kinds[i], stack.get(kinds.len() - 1 - i)) {
+    let mut left = kinds.len();
+    for kind in kinds {
+        left -= 1;
+        if !is_of(*kind, stack.get(left)) {
             return false;
         }
     }

@@ -116,7 +116,7 @@ fn insert(stack: &mut Operands, under: usize, v: Value)
 }
 
 /// Puts copies of so many of the top values below so many.
-#[tactic(auto, using(crate::proofs::Copies::copied))]
+#[tactic(auto, using(crate::proofs::Copies::copied, crate::proofs::Copies::length_insert))]
 fn copy(stack: &mut Operands, count: usize, under: usize)
     requires within { count ≤ under }
     requires there { under ≤ length stack.old.values }
@@ -136,7 +136,8 @@ fn copy(stack: &mut Operands, count: usize, under: usize)
 fn dup_under(f: &mut Frame, places: u32, count: usize, more: Option<usize>) -> Effect
     requires pc { f.old.pc < 65535 }
     requires count { depth (take count f.old.stack.values) ≤ places }
-    requires more { IfSome more (λ more. count + more ≤ length f.old.stack.values) }
+    requires few { count < 3 }
+    requires more { IfSome more (λ more. (more < 3) × (count + more ≤ length f.old.stack.values)) }
     ensures { Does (dupped_under f.old f.old.stack.values places count more) result f.old f.new }
 {
     match more {
