@@ -1,5 +1,5 @@
 -- The classes of a linked set by their numbers.
-use Rattle.std.specs.Prelude.{ℕ, Bool, false, ◌==◌, ◌&&◌, ◌||◌, not, nat_lt, if◌then◌else◌, List, [], Option, Some, None, bit_and, slice_get, option_map, option_and_then}
+use Rattle.std.specs.Prelude.{ℕ, Bool, false, ◌==◌, not, nat_lt, if◌then◌else◌, List, [], Option, Some, None, bit_and, slice_get, option_map, option_and_then}
 use Rattle.std.specs.List.{position_from}
 use Rattle.std.specs.Option.{unwrap_or}
 use Rattle.ty_linear.specs.Linear.{is_in}
@@ -60,7 +60,7 @@ statics_of classes class = unwrap_or (option_map (λ c. c.statics) (slice_get cl
 abbrev pub method_at : List LinkedClass → ℕ → ℕ → Option LinkedMethod
 method_at classes class number = slice_get (methods_of classes class) number
 
--- whether the objects of the first class are objects of the second too (JVMS 5.5, 6.5 checkcast): it is in the chain, or an
--- interface above
+-- whether the objects of the first class are objects of the second too (JVMS 5.5, 6.5 checkcast): a class is in the chain, an
+-- interface in the line
 abbrev pub conforms : List LinkedClass → ℕ → ℕ → Bool
-conforms classes class of = is_in (chain_of classes class) of || is_interface classes of && is_in (line_of classes class) of
+conforms classes class of = is_in (if is_interface classes of then line_of classes class else chain_of classes class) of

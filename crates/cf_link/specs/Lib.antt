@@ -5,3 +5,5 @@ pub mod Selection
 pub mod Layout
 pub mod Resolution
 pub mod Linked
+-- For proofs only.
+pub mod Places

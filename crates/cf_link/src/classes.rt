@@ -124,6 +124,9 @@ pub fn is_in(list: &[u32], number: u32) -> bool
 pub fn conforms(classes: &[LinkedClass], class: u32, of: u32) -> bool
     ensures { result ≡ conforms classes.now class of }
 {
-    is_in(chain_of(classes, class), of)
-        || is_interface(classes, of) && is_in(line_of(classes, class), of)
+    if is_interface(classes, of) {
+        is_in(line_of(classes, class), of)
+    } else {
+        is_in(chain_of(classes, class), of)
+    }
 }

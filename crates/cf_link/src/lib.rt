@@ -11,6 +11,7 @@ mod native;
 mod reference;
 mod selection;
 mod table;
+mod targets;
 mod value_kind;
 
 pub use classes::{
@@ -25,4 +26,5 @@ pub use native::Native;
 pub use reference::LinkedRef;
 pub use selection::{chosen, selected};
 pub use table::{Face, Table};
+pub use targets::target;
 pub use value_kind::ValueKind;
