@@ -71,8 +71,8 @@ pub fn act(k: &Linked, f: &mut Frame, i: Instr, action: Action) -> Effect
         Action::AtHeap(_) => Effect::AtHeap,
         Action::Invoke(how) => invoke(k, f, how, i.a),
         Action::Throw => throw(k, f),
-        Action::CheckCast => check_cast(k, f, ref_at(k, f.class, i.a)),
-        Action::InstanceOf => instance_of(k, f, ref_at(k, f.class, i.a)),
+        Action::CheckCast => check_cast(k, f, i.a),
+        Action::InstanceOf => instance_of(k, f, i.a),
         Action::Wide => Effect::Stuck(StuckKind::PcOut),
     }
 }

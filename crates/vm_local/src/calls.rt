@@ -9,11 +9,14 @@ ghost use Rattle.vm_state.specs.Local.{aims, aimed, selected, selection, receive
 
 use crate::linkage::{class_of, is_of, ref_at};
 use cf_form::Code;
-use cf_link::{Linked, LinkedMethod, LinkedRef, Native, ValueKind, chosen, is_static, method_at};
+use cf_link::{
+    Linked, LinkedMethod, LinkedRef, Native, ValueKind, chosen, conforms, is_static, method_at,
+    methods_of, target,
+};
 use vm_state::{Effect, Frame, Invocation, Operands, StuckKind, Target, Value};
 
 #[inline(always)]
-fn aim(f: &Frame, target: Target, count: u32, m: Option<&LinkedMethod>) -> Effect
+fn aim(f: &Frame, target: Target, count: usize, m: Option<&LinkedMethod>) -> Effect
     ensures { Does (aimed f.now target count (option_copied m.entry)) result f.now f.now }
 {
     match m {
@@ -32,7 +35,7 @@ fn aim(f: &Frame, target: Target, count: u32, m: Option<&LinkedMethod>) -> Effec
 }
 
 #[inline(always)]
-fn select(k: &Linked, f: &Frame, count: u32, found: Option<(u32, u32)>) -> Effect
+fn select(k: &Linked, f: &Frame, count: usize, found: Option<(u32, u32)>) -> Effect
     ensures { Does (selected k.now f.now count found) result f.now f.now }
 {
     match found {
@@ -51,6 +54,18 @@ fn select(k: &Linked, f: &Frame, count: u32, found: Option<(u32, u32)>) -> Effec
 
 /// The method that a class selects for one of a class or interface.
 fn chosen_at(k: &Linked, class: u32, of: u32, number: u32) -> Option<(u32, u32)>
+    ensures { result ≡ chosen_at k.now.classes class of number }
+{
+    let classes = k.classes.as_slice();
+    if conforms(classes, class, of) && (number as usize) < methods_of(classes, of).len() {
+        target(k, class, of, number)
+    } else {
+        chosen_by_name(k, class, of, number)
+    }
+}
+
+/// The same, found by name, for an object of a class that doesn't conform.
+fn chosen_by_name(k: &Linked, class: u32, of: u32, number: u32) -> Option<(u32, u32)>
     ensures { result ≡ chosen_at k.now.classes class of number }
 {
     match method_at(k.classes.as_slice(), of, number) {
@@ -77,7 +92,7 @@ fn receive(
     how: Invocation,
     of: u32,
     number: u32,
-    count: u32,
+    count: usize,
     v: Value,
 ) -> Effect
     ensures { Does (received k.now f.now how of number count v) result f.now f.now }
@@ -120,7 +135,7 @@ fn invoke_on(
         None => Effect::Stuck(StuckKind::Stack),
         Some(v) => {
             if !is_static(m.access) && (v.is_kind(ValueKind::Reference) && are_arguments(kinds, &f.stack)) {
-                receive(k, f, how, of, number, kinds.len() as u32 + 1, v)
+                receive(k, f, how, of, number, kinds.len() + 1, v)
             } else {
                 Effect::Stuck(StuckKind::WrongKind)
             }

@@ -2,9 +2,10 @@
 
 ghost use Rattle.std.specs.Prelude.{◌≡◌, ◌<◌, ◌≤◌, ◌∷◌, drop, length};
 ghost use Rattle.vm_state.specs.Instructions.{Does, next};
+ghost use Rattle.vm_state.specs.Methods.{ref_at};
 ghost use Rattle.vm_state.specs.Local.{constant, cast, class_cast, check_cast, is_evaluating, is_instance, truth, class_tested, instance_of};
 
-use crate::linkage::class_of;
+use crate::linkage::{class_of, ref_at};
 use crate::pushes::{push, skip};
 use cf_link::built_in::EVALUATING;
 use cf_link::{Linked, LinkedRef, ValueKind, conforms};
@@ -52,13 +53,17 @@ fn class_cast(k: &Linked, f: &mut Frame, v: Value, r: Option<LinkedRef>) -> Effe
 }
 
 /// Whether the top operand may be taken for one of a class.
-pub fn check_cast(k: &Linked, f: &mut Frame, r: Option<LinkedRef>) -> Effect
+#[tactic(auto, unfolding(vm_state::specs::Local::check_cast))]
+pub fn check_cast(k: &Linked, f: &mut Frame, a: i32) -> Effect
     requires { f.old.pc < 65535 }
-    ensures { Does (check_cast k.now f.old r f.old.stack.values) result f.old f.new }
+    ensures { Does (check_cast k.now f.old (ref_at k.now f.old.class a) f.old.stack.values) result f.old f.new }
 {
     match f.stack.top() {
         None => Effect::Stuck(StuckKind::Stack),
-        Some(v) => class_cast(k, f, v, r),
+        Some(v) => {
+            let r = ref_at(k, f.class, a);
+            class_cast(k, f, v, r)
+        }
     }
 }
 
@@ -118,12 +123,16 @@ fn class_tested(k: &Linked, f: &mut Frame, v: Value, r: Option<LinkedRef>) -> Ef
 }
 
 /// Whether the top operand is an instance of a class.
-pub fn instance_of(k: &Linked, f: &mut Frame, r: Option<LinkedRef>) -> Effect
+#[tactic(auto, unfolding(vm_state::specs::Local::instance_of))]
+pub fn instance_of(k: &Linked, f: &mut Frame, a: i32) -> Effect
     requires { f.old.pc < 65535 }
-    ensures { Does (instance_of k.now f.old r f.old.stack.values) result f.old f.new }
+    ensures { Does (instance_of k.now f.old (ref_at k.now f.old.class a) f.old.stack.values) result f.old f.new }
 {
     match f.stack.top() {
         None => Effect::Stuck(StuckKind::Stack),
-        Some(v) => class_tested(k, f, v, r),
+        Some(v) => {
+            let r = ref_at(k, f.class, a);
+            class_tested(k, f, v, r)
+        }
     }
 }

@@ -81,7 +81,7 @@ pub fn enter(
     alloc: Global,
     t: &mut Thread,
     target: Target,
-    count: u32,
+    count: usize,
     code: Option<&Code>,
 ) -> LocalStep
     requires { 0 < length t.old.frames }
@@ -93,10 +93,10 @@ pub fn enter(
     let Some(f) = t.frames.top() else {
         return LocalStep::Memory;
     };
-    if f.stack.count() < count as usize {
+    if f.stack.count() < count {
         return LocalStep::Stuck(StuckKind::Stack);
     }
-    let Ok(locals) = arguments(alloc, &f.stack, count as usize, code.max_locals as usize) else {
+    let Ok(locals) = arguments(alloc, &f.stack, count, code.max_locals as usize) else {
         return LocalStep::Memory;
     };
     if locals.len() > code.max_locals as usize {
@@ -108,6 +108,6 @@ pub fn enter(
     if t.frames.push(made).is_err() {
         return LocalStep::Memory;
     }
-    drop_operands(t.frames.under_top_mut(), count as usize);
+    drop_operands(t.frames.under_top_mut(), count);
     LocalStep::Stepped
 }

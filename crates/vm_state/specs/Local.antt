@@ -51,7 +51,7 @@ class_cast k f v (Some (ref.Class class)) = if is_kind kind.Reference v then cas
 class_cast k f v (Some _) = same f (Stuck WrongKind)
 class_cast k f v None = same f (Stuck WrongKind)
 
-abbrev pub check_cast : Linked → Frame → Option LinkedRef → List Value → After
+unfoldable pub check_cast : Linked → Frame → Option LinkedRef → List Value → After
 check_cast k f r [] = same f (Stuck Stack)
 check_cast k f r (v ∷ vs) = class_cast k f v r
 
@@ -73,7 +73,7 @@ class_tested k f v vs (Some (ref.Class class)) =
 class_tested k f v vs (Some _) = same f (Stuck WrongKind)
 class_tested k f v vs None = same f (Stuck WrongKind)
 
-abbrev pub instance_of : Linked → Frame → Option LinkedRef → List Value → After
+unfoldable pub instance_of : Linked → Frame → Option LinkedRef → List Value → After
 instance_of k f r [] = same f (Stuck Stack)
 instance_of k f r (v ∷ vs) = class_tested k f v vs r
 

@@ -29,7 +29,7 @@ pub enum Effect {
     /// A method is called, with so many operands as arguments.
     Call {
         target: Target,
-        count: u32,
+        count: usize,
     },
     /// The method ends, with a value or without.
     Return(Option<Value>),
