@@ -14,7 +14,9 @@ mod locals;
 mod moves;
 mod pushes;
 mod returning;
+mod running;
 mod unwinding;
 
 pub use acting::{instruct, instruct_in};
 pub use local_step::local;
+pub use running::{Ran, run_frame};
