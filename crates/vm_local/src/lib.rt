@@ -8,6 +8,7 @@ mod classes;
 mod ends;
 mod entering;
 mod jumps;
+mod laws;
 mod linkage;
 mod local_step;
 mod locals;
@@ -18,5 +19,6 @@ mod running;
 mod unwinding;
 
 pub use acting::{instruct, instruct_in};
+pub use laws::batches;
 pub use local_step::local;
 pub use running::{Ran, run_frame};

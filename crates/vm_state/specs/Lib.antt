@@ -5,3 +5,5 @@ pub mod Actions
 pub mod Instructions
 pub mod Methods
 pub mod Local
+pub mod Heaps
+pub mod Shared

@@ -21,7 +21,7 @@ pub use frame::Frame;
 pub use heap::{Heap, Init, Object, State};
 pub use laws::rows;
 pub use operands::Operands;
-pub use outcomes::{Effect, LocalStep, StuckKind};
+pub use outcomes::{Effect, HeapEffect, HeapMove, LocalStep, StuckKind};
 pub use seq::Seq;
 pub use stack::Stack;
 pub use target::Target;

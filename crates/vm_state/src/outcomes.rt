@@ -47,3 +47,32 @@ pub enum LocalStep {
     Stuck(StuckKind),
     Memory,
 }
+
+/// What an instruction does that touches what threads share, beside changing its frame and the heap.
+#[derive(Clone, Copy, Debug)]
+pub enum HeapEffect {
+    /// The next instruction of the frame follows.
+    Done,
+    /// It awaits a closed latch, or a class that another thread initialises.
+    Waits,
+    Stuck(StuckKind),
+    /// An exception of this class is made and thrown.
+    Fail(u32),
+    /// A method is called, with so many operands as arguments.
+    Call {
+        target: Target,
+        count: usize,
+    },
+    /// The initialiser of a class is entered; the instruction is made after it.
+    Initialise(Target),
+    Memory,
+}
+
+/// What came of a heap step.
+#[derive(Clone, Copy, Debug)]
+pub enum HeapMove {
+    Moved,
+    Waits,
+    Stuck(StuckKind),
+    Memory,
+}

@@ -1,0 +1,180 @@
+-- Instructions on fields, statics, new objects and texts, and the initialisation of classes (JVMS 5.5, 6.5).
+use Rattle.std.specs.Prelude.{◌≡◌, ℕ, ℤ, ◌+◌, ◌&&◌, Bool, true, false, not, if◌then◌else◌, nat_eq, nat_le, nat_lt, List, [], ◌∷◌, ◌++◌, length, drop, Option, Some, None, option_and_then, slice_get}
+use Rattle.std.specs.Str.{bytes_eq}
+use Rattle.cf_form.specs.declared.code.Code.{Code}
+use Rattle.cf_link.specs.declared.linked.Linked.{Linked}
+use Rattle.cf_link.specs.declared.linked_class.LinkedClass.{LinkedClass}
+use Rattle.cf_link.specs.declared.member.LinkedField.{LinkedField}
+use Rattle.cf_link.specs.declared.member.Slot.{Slot}
+use Rattle.cf_link.specs.declared.reference.LinkedRef.{LinkedRef}
+use Rattle.cf_link.specs.declared.reference.LinkedRef.TheVariants as ref
+use Rattle.cf_link.specs.declared.value_kind.ValueKind.{ValueKind}
+use Rattle.cf_link.specs.declared.built_in.TheConstants.{NULL_POINTER_EXCEPTION, NO_CLASS_DEF_FOUND_ERROR}
+use Rattle.cf_link.specs.Classes.{conforms, slots_of, statics_of}
+use Rattle.vm_state.specs.declared.value.Value.{Value}
+use Rattle.vm_state.specs.declared.value.Value.TheVariants as value
+use Rattle.vm_state.specs.declared.frame.Frame.{Frame}
+use Rattle.vm_state.specs.declared.heap.Heap.{Heap}
+use Rattle.vm_state.specs.declared.heap.Object.{Object}
+use Rattle.vm_state.specs.declared.heap.Init.{Init}
+use Rattle.vm_state.specs.declared.heap.Init.TheVariants as init
+use Rattle.vm_state.specs.declared.target.Target.{Target}
+use Rattle.vm_state.specs.declared.outcomes.Effect.{Effect}
+use Rattle.vm_state.specs.declared.outcomes.Effect.TheVariants as effect
+use Rattle.vm_state.specs.declared.outcomes.HeapEffect.{HeapEffect}
+use Rattle.vm_state.specs.declared.outcomes.HeapEffect.TheVariants.{Done, Waits, Stuck, Fail, Initialise, Memory}
+use Rattle.vm_state.specs.declared.outcomes.StuckKind.TheVariants.{Stack, WrongKind, NoMethod}
+use Rattle.vm_state.specs.Values.{width, depth, is_kind}
+use Rattle.vm_state.specs.Instructions.{After, next, pushed, branches}
+use Rattle.vm_state.specs.Methods.{code_of, is_of}
+use Rattle.vm_state.specs.Heaps.{blank, with_object, with_init, field_at, set_field, static_at, set_static}
+
+-- what an instruction does beside, and the heap and the frame after it
+pub record Shared : Type 0 where
+  pub effect : HeapEffect
+  pub heap : Heap
+  pub frame : Frame
+
+-- an instruction that can't be made changes nothing
+abbrev pub IsUntouched : HeapEffect → Heap → Heap → Frame → Frame → Type 0
+IsUntouched Waits h h' f f' = (h' ≡ h) × (f' ≡ f)
+IsUntouched (Stuck kind) h h' f f' = (h' ≡ h) × (f' ≡ f)
+IsUntouched _ h h' f f' = Unit {0}
+
+-- the code did this, or lacked memory and changed nothing
+abbrev pub Shares : Shared → HeapEffect → Heap → Heap → Frame → Frame → Type 0
+Shares a Memory h h' f f' = (h' ≡ h) × (f' ≡ f)
+Shares a e h h' f f' = (e ≡ a.effect) × (h' ≡ a.heap) × (f' ≡ a.frame) × IsUntouched e h h' f f'
+
+abbrev pub rests : Heap → Frame → HeapEffect → Shared
+rests h f e = record { effect = e; heap = h; frame = f }
+
+-- the frame goes on so, with this heap; what doesn't fit leaves both as they were
+abbrev pub goes_by : Heap → Heap → Frame → Frame → Effect → Shared
+goes_by h h' f g effect.Done = record { effect = Done; heap = h'; frame = g }
+goes_by h h' f g (effect.Stuck kind) = rests h f (Stuck kind)
+goes_by h h' f g _ = rests h f (Stuck WrongKind)
+
+abbrev pub goes_on : Heap → Heap → Frame → After → Shared
+goes_on h h' f a = goes_by h h' f a.frame a.effect
+
+-- ---- fields
+
+abbrev pub got : Heap → Frame → List Value → Option Value → Shared
+got h f vs None = rests h f (Stuck WrongKind)
+got h f vs (Some v) = goes_on h h f (pushed f vs v)
+
+-- a field of an object of a class that has it; on null an exception is made
+abbrev pub gets_field : Linked → Heap → Frame → ℕ → ℕ → Value → List Value → Shared
+gets_field k h f class n (value.Ref at of) vs =
+    if conforms k.classes of class then got h f vs (field_at h at n) else rests h f (Stuck WrongKind)
+gets_field k h f class n value.Null vs = rests h f (Fail NULL_POINTER_EXCEPTION)
+gets_field k h f class n _ vs = rests h f (Stuck WrongKind)
+
+abbrev pub field_named : Linked → Heap → Frame → Option LinkedRef → Value → List Value → Shared
+field_named k h f (Some (ref.Field class n)) v vs = gets_field k h f class n v vs
+field_named k h f (Some _) v vs = rests h f (Stuck WrongKind)
+field_named k h f None v vs = rests h f (Stuck WrongKind)
+
+abbrev pub get_field : Linked → Heap → Frame → Option LinkedRef → List Value → Shared
+get_field k h f r [] = rests h f (Stuck Stack)
+get_field k h f r (v ∷ vs) = field_named k h f r v vs
+
+-- the value is of the kind of the field
+abbrev pub fits_slot : Option Slot → Value → Bool
+fits_slot None v = false
+fits_slot (Some slot) v = is_kind slot.kind v
+
+abbrev pub written : Heap → Frame → ℕ → ℕ → Value → List Value → Option Object → Shared
+written h f at n v vs None = rests h f (Stuck WrongKind)
+written h f at n v vs (Some o) =
+    if nat_lt n (length o.fields)
+    then record { effect = Done; heap = set_field h at o n v; frame = (next f vs).frame }
+    else rests h f (Stuck WrongKind)
+
+abbrev pub puts_field : Linked → Heap → Frame → ℕ → ℕ → Value → Value → List Value → Shared
+puts_field k h f class n v (value.Ref at of) vs =
+    if conforms k.classes of class then written h f at n v vs (slice_get h.objects at) else rests h f (Stuck WrongKind)
+puts_field k h f class n v value.Null vs = rests h f (Fail NULL_POINTER_EXCEPTION)
+puts_field k h f class n v _ vs = rests h f (Stuck WrongKind)
+
+abbrev pub field_put : Linked → Heap → Frame → Option LinkedRef → Value → Value → List Value → Shared
+field_put k h f (Some (ref.Field class n)) v o vs =
+    if fits_slot (slice_get (slots_of k.classes class) n) v
+    then puts_field k h f class n v o vs
+    else rests h f (Stuck WrongKind)
+field_put k h f (Some _) v o vs = rests h f (Stuck WrongKind)
+field_put k h f None v o vs = rests h f (Stuck WrongKind)
+
+abbrev pub put_field : Linked → Heap → Frame → Option LinkedRef → List Value → Shared
+put_field k h f r (v ∷ o ∷ vs) = field_put k h f r v o vs
+put_field k h f r _ = rests h f (Stuck Stack)
+
+-- ---- statics of a class that needs no more initialisation, and new objects
+
+abbrev pub get_static : Heap → Frame → ℕ → ℕ → Shared
+get_static h f class n = got h f f.stack.values (static_at h class n)
+
+abbrev pub fits_static : Option LinkedField → Value → Bool
+fits_static None v = false
+fits_static (Some field) v = is_kind field.kind v
+
+abbrev pub static_written : Heap → Frame → ℕ → ℕ → Value → List Value → Option (List Value) → Shared
+static_written h f class n v vs None = rests h f (Stuck WrongKind)
+static_written h f class n v vs (Some statics) =
+    if nat_lt n (length statics)
+    then record { effect = Done; heap = set_static h class statics n v; frame = (next f vs).frame }
+    else rests h f (Stuck WrongKind)
+
+abbrev pub put_static : Linked → Heap → Frame → ℕ → ℕ → List Value → Shared
+put_static k h f class n [] = rests h f (Stuck Stack)
+put_static k h f class n (v ∷ vs) =
+    if fits_static (slice_get (statics_of k.classes class) n) v
+    then static_written h f class n v vs (slice_get h.statics class)
+    else rests h f (Stuck WrongKind)
+
+abbrev pub make : Linked → Heap → Frame → ℕ → Shared
+make k h f class =
+    goes_on h (with_object h (blank k class)) f (pushed f f.stack.values (value.Ref (length h.objects) class))
+
+-- ---- the class that an instruction needs (JVMS 5.5)
+
+-- an initialiser that has code is entered
+abbrev pub entered : Heap → Frame → ℕ → ℕ → ℕ → Option Code → Shared
+entered h f thread class method None = rests h f (Stuck NoMethod)
+entered h f thread class method (Some code) = record {
+  effect = Initialise (record { class = class; method = method });
+  heap = with_init h class (init.Running thread);
+  frame = f;
+}
+
+-- a class without an initialiser is ready within the step
+abbrev pub begins_by : Linked → Heap → Frame → ℕ → ℕ → (Heap → Shared) → Option ℕ → Shared
+begins_by k h f thread class go None = go (with_init h class init.Ready)
+begins_by k h f thread class go (Some method) = entered h f thread class method (code_of k class method)
+
+abbrev pub begins : Linked → Heap → Frame → ℕ → ℕ → (Heap → Shared) → Option LinkedClass → Shared
+begins k h f thread class go None = rests h f (Stuck WrongKind)
+begins k h f thread class go (Some c) = begins_by k h f thread class go c.initialiser
+
+abbrev pub needing : Linked → Heap → Frame → ℕ → ℕ → (Heap → Shared) → Option Init → Shared
+needing k h f thread class go None = rests h f (Stuck WrongKind)
+needing k h f thread class go (Some init.NotYet) = begins k h f thread class go (slice_get k.classes class)
+needing k h f thread class go (Some (init.Running other)) = if nat_eq other thread then go h else rests h f Waits
+needing k h f thread class go (Some init.Ready) = go h
+needing k h f thread class go (Some init.Bad) = rests h f (Fail NO_CLASS_DEF_FOUND_ERROR)
+
+-- ---- texts
+
+abbrev pub same_text : Option (List ℕ) → Option (List ℕ) → Bool
+same_text (Some a) (Some b) = bytes_eq a b
+same_text _ _ = false
+
+abbrev pub same_texts : Heap → Value → Value → Bool
+same_texts h (value.Text a) (value.Text b) = same_text (slice_get h.texts a) (slice_get h.texts b)
+same_texts h _ _ = false
+
+abbrev pub if_same_texts : Heap → Frame → Bool → ℤ → List Value → Shared
+if_same_texts h f wanted a (w ∷ v ∷ vs) =
+    goes_on h h f (branches f vs a (if wanted then same_texts h v w else not (same_texts h v w)))
+if_same_texts h f wanted a _ = rests h f (Stuck Stack)
