@@ -12,14 +12,12 @@ use crate::arithmetic::{
 use crate::calls::invoke;
 use crate::classes::{check_cast, constant, instance_of};
 use crate::ends::{give, leave, throw};
-use crate::jumps::{go, if_ints, if_null, if_same, if_zero, place};
-use crate::linkage::{instr_at, instr_in, ref_at};
+use crate::jumps::{if_ints, if_null, if_same, if_zero};
 use crate::locals::{increment, load, store};
 use crate::moves::{dup, pop, swap};
-use crate::pushes::{push, skip};
 use cf_form::{Code, Instr};
 use cf_link::Linked;
-use vm_state::{Action, Effect, Frame, StuckKind, Value, action_of};
+use vm_state::{Action, Effect, Frame, StuckKind, Value, action_of, go, instr_at, instr_in, place, push, ref_at, skip};
 
 /// What an instruction does to its frame.
 #[inline(always)]

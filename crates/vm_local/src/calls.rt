@@ -7,13 +7,12 @@ ghost use Rattle.vm_state.specs.Instructions.{Does};
 ghost use Rattle.vm_state.specs.Methods.{are_arguments, is_of, ref_at};
 ghost use Rattle.vm_state.specs.Local.{aims, aimed, selected, selection, received, invoked_on, invoked_as, invoked};
 
-use crate::linkage::{class_of, is_of, ref_at};
 use cf_form::Code;
 use cf_link::{
     Linked, LinkedMethod, LinkedRef, Native, ValueKind, chosen, conforms, is_static, method_at,
     methods_of, target,
 };
-use vm_state::{Effect, Frame, Invocation, Operands, StuckKind, Target, Value};
+use vm_state::{Effect, Frame, Invocation, Operands, StuckKind, Target, Value, class_of, is_of, ref_at};
 
 #[inline(always)]
 fn aim(f: &Frame, target: Target, count: usize, m: Option<&LinkedMethod>) -> Effect

@@ -5,11 +5,9 @@ ghost use Rattle.vm_state.specs.Instructions.{Does, next};
 ghost use Rattle.vm_state.specs.Methods.{ref_at};
 ghost use Rattle.vm_state.specs.Local.{constant, cast, class_cast, check_cast, is_evaluating, is_instance, truth, class_tested, instance_of};
 
-use crate::linkage::{class_of, ref_at};
-use crate::pushes::{push, skip};
 use cf_link::built_in::EVALUATING;
 use cf_link::{Linked, LinkedRef, ValueKind, conforms};
-use vm_state::{Effect, Frame, StuckKind, Value};
+use vm_state::{Effect, Frame, StuckKind, Value, class_of, push, ref_at, skip};
 
 /// Pushes a constant of the pool.
 #[inline(always)]

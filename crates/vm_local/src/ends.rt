@@ -5,10 +5,9 @@ ghost use Rattle.std.specs.Option.{option_copied};
 ghost use Rattle.vm_state.specs.Instructions.{Does};
 ghost use Rattle.vm_state.specs.Local.{fits_method, give, leave, throw};
 
-use crate::linkage::{is_result, method_of};
 use cf_link::built_in::THROWABLE;
 use cf_link::{Linked, LinkedMethod, ValueKind, conforms};
-use vm_state::{Effect, Frame, StuckKind, Value};
+use vm_state::{Effect, Frame, StuckKind, Value, is_result, method_of};
 
 #[inline(always)]
 fn fits_method(m: Option<&LinkedMethod>, v: Option<Value>) -> bool

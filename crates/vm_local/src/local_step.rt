@@ -4,13 +4,11 @@ ghost use Rattle.std.specs.Prelude.{◌≡◌};
 ghost use Rattle.vm_state.specs.Local.{IsLocal, local_step};
 
 use crate::acting::instruct;
-use crate::entering::enter;
-use crate::linkage::code_of;
 use crate::returning::end;
 use crate::unwinding::unwind;
 use cf_link::Linked;
 use std::alloc::Global;
-use vm_state::{Effect, LocalStep, Thread};
+use vm_state::{Effect, LocalStep, Thread, code_of, enter};
 
 /// Makes the next step of a thread, where it touches the thread's own frames alone. Only Stepped changes the thread.
 pub fn local(alloc: Global, k: &Linked, t: &mut Thread) -> LocalStep

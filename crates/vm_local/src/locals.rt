@@ -4,10 +4,9 @@ ghost use Rattle.std.specs.Prelude.{◌≡◌, ◌+◌, ◌<◌, ◌≤◌, leng
 ghost use Rattle.vm_state.specs.Values.{kind_width};
 ghost use Rattle.vm_state.specs.Instructions.{Does, long_loaded, loaded, load, with_local, store, incremented};
 
-use crate::pushes::push;
 use cf_link::ValueKind;
 use sl_num::{IntOp, int};
-use vm_state::{Effect, Frame, StuckKind, Value, kind_width};
+use vm_state::{Effect, Frame, StuckKind, Value, kind_width, push};
 
 /// Pushes a Long that stands at these two places.
 #[inline(always)]

@@ -3,9 +3,8 @@
 ghost use Rattle.std.specs.Prelude.{◌≡◌, ◌<◌, length, drop, true};
 ghost use Rattle.vm_state.specs.Local.{IsLocal, has_room, resumed, returned, ended};
 
-use crate::linkage::is_initialiser;
 use cf_link::Linked;
-use vm_state::{Frame, LocalStep, StuckKind, Thread, Value};
+use vm_state::{Frame, LocalStep, StuckKind, Thread, Value, is_initialiser};
 
 #[inline(always)]
 fn has_room(g: &Frame, v: Option<Value>) -> bool

@@ -5,10 +5,9 @@ ghost use Rattle.vm_state.specs.Values.{width};
 ghost use Rattle.vm_state.specs.Methods.{code_of};
 ghost use Rattle.vm_state.specs.Local.{IsLocal, takes, covers, handler, handlers_of, caught, local_step};
 
-use crate::linkage::{class_of, code_of, is_initialiser, ref_at};
 use cf_form::Handler;
 use cf_link::{Linked, LinkedRef, conforms};
-use vm_state::{Frame, LocalStep, StuckKind, Thread, Value};
+use vm_state::{Frame, LocalStep, StuckKind, Thread, Value, class_of, code_of, is_initialiser, ref_at};
 
 fn takes(k: &Linked, e: Value, r: Option<LinkedRef>) -> bool
     ensures { result ≡ takes k.now e r }

@@ -5,9 +5,15 @@ ghost use Rattle.std.specs.Option.{option_copied};
 ghost use Rattle.vm_state.specs.declared.value.Value.TheVariants as value;
 ghost use Rattle.vm_state.specs.Local.{IsLocal, slots, placed, frame_of, without, called};
 
+use crate::frame::Frame;
+use crate::operands::Operands;
+use crate::outcomes::{LocalStep, StuckKind};
+use crate::seq::Seq;
+use crate::target::Target;
+use crate::thread::Thread;
+use crate::value::Value;
 use cf_form::Code;
 use std::alloc::{AllocError, Global};
-use vm_state::{Frame, LocalStep, Operands, Seq, StuckKind, Target, Thread, Value};
 
 #[inline]
 fn add_slots(made: &mut Seq<Value>, v: Value) -> Result<(), AllocError>
@@ -51,7 +57,8 @@ fn pad(locals: &mut Seq<Value>, count: usize) -> Result<(), AllocError>
     Ok(())
 }
 
-fn begin(
+/// A new frame with these first locals.
+pub fn begin(
     alloc: Global,
     target: Target,
     code: &Code,

@@ -4,11 +4,12 @@ ghost use Rattle.std.specs.Prelude.{◌≡◌, ◌<◌, OnSome};
 ghost use Rattle.std.specs.Option.{option_copied};
 ghost use Rattle.vm_state.specs.Methods.{method_of, code_of, instr_in, instr_at, entry_of, ref_at, class_of, is_number, initialises, is_initialiser, is_of, is_result};
 
-use crate::jumps::place;
+use crate::frame::Frame;
+use crate::going::place;
+use crate::value::Value;
 use cf_form::{Code, Instr};
 use cf_link::built_in::{BOOLEAN, INTEGER, LATCH, LONG, OBJECT, STRING, UNIT};
 use cf_link::{Linked, LinkedClass, LinkedMethod, LinkedRef, ValueKind, method_at};
-use vm_state::{Frame, Value};
 
 /// The method that a frame runs.
 #[inline(always)]

@@ -1,8 +1,8 @@
 use Rattle.std.proofs.Common.{◌≡◌, ◌-◌, ◌∷◌, ◌++◌, suc, take, drop, Some, ap, sym, ◌∙◌, arith}
 use Rattle.std.specs.Prelude.{slice_get}
 use Rattle.vm_state.specs.Local.{placed, slots}
-use Rattle.vm_local.proofs.Lists.{drop_item, slice_get-take}
-use Rattle.vm_local.proofs.entering.arguments.Goals as goal
+use Rattle.vm_state.proofs.Lists.{drop_item, slice_get-take}
+use Rattle.vm_state.proofs.entering.arguments.Goals as goal
 
 pub loop-left-preserved : goal.loop-left-preserved
 loop-left-preserved c =
