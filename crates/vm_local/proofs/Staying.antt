@@ -7,7 +7,7 @@ use Rattle.vm_state.specs.declared.outcomes.Effect.TheVariants.{Done}
 use Rattle.vm_state.specs.Local.{instructed, settled, steps_in, local_step, moves}
 use Rattle.vm_local.specs.Batches.{after, AllStay, locals_after, AllLocal}
 
-abbrev with_frames : Thread → List Frame → Thread
+abbrev pub with_frames : Thread → List Frame → Thread
 with_frames t fs = record t { frames = fs }
 
 one : (k : Linked) (t : Thread) (g : Frame) (fs : List Frame) → t.thrown ≡ None → (instructed k g).effect ≡ Done → local_step k (with_frames t (g ∷ fs)) ≡ moves (with_frames t (g ∷ fs)) ((instructed k g).frame ∷ fs)

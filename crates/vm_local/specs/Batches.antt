@@ -1,12 +1,15 @@
 -- Many instructions of one frame, and many local steps of a thread.
-use Rattle.std.specs.Prelude.{◌≡◌, ℕ, zero, suc}
+use Rattle.std.specs.Prelude.{◌≡◌, ℕ, zero, suc, List, [], ◌∷◌, Option, Some, None}
 use Rattle.cf_link.specs.declared.linked.Linked.{Linked}
 use Rattle.vm_state.specs.declared.frame.Frame.{Frame}
 use Rattle.vm_state.specs.declared.thread.Thread.{Thread}
 use Rattle.vm_state.specs.declared.outcomes.Effect.{Effect}
 use Rattle.vm_state.specs.declared.outcomes.Effect.TheVariants.{Done}
-use Rattle.vm_state.specs.declared.outcomes.LocalStep.TheVariants.{Stepped}
-use Rattle.vm_state.specs.Local.{instructed, local_step}
+use Rattle.vm_state.specs.declared.outcomes.LocalStep.{LocalStep}
+use Rattle.vm_state.specs.declared.outcomes.LocalStep.TheVariants.{Stepped, Ended, Memory}
+use Rattle.cf_form.specs.declared.code.Code.{Code}
+use Rattle.vm_state.specs.Methods.{code_of}
+use Rattle.vm_state.specs.Local.{instructed, LocalAfter, stays, settled, local_step}
 
 -- the frame after n instructions, as long as they stay in it
 abbrev pub after : Linked → ℕ → Frame → Frame
@@ -32,3 +35,26 @@ locals_after k (suc n) t = (local_step k (locals_after k n t)).thread
 abbrev pub AllLocal : Linked → ℕ → Thread → Type 0
 AllLocal k zero t = Unit {0}
 AllLocal k (suc n) t = AllLocal k n t × ((local_step k (locals_after k n t)).step ≡ Stepped)
+
+-- the code of the innermost frame
+abbrev pub top_code : Linked → List Frame → Option Code
+top_code k [] = None
+top_code k (f ∷ fs) = code_of k f.class f.method
+
+-- ---- a step that leaves the frame
+
+-- what an effect of the innermost frame does to its thread
+abbrev pub settled_top : Linked → Thread → List Frame → Effect → LocalAfter
+settled_top k t [] e = stays t Ended
+settled_top k t (f ∷ fs) e = settled k t fs f e
+
+-- the thread's next step is what this effect does, where it leaves the frame
+abbrev pub LeavesTop : Linked → Thread → Effect → Type 0
+LeavesTop k t Done = Unit {0}
+LeavesTop k t e = local_step k t ≡ settled_top k t t.frames e
+
+-- what the thread's next step is; that of a step which was made, or lacked memory, isn't told
+abbrev pub Tells : Linked → Thread → LocalStep → Type 0
+Tells k t Stepped = Unit {0}
+Tells k t Memory = Unit {0}
+Tells k t s = s ≡ (local_step k t).step

@@ -3,6 +3,7 @@
 
 mod acting;
 mod arithmetic;
+mod batch;
 mod calls;
 mod classes;
 mod ends;
@@ -13,6 +14,7 @@ mod locals;
 mod moves;
 mod returning;
 mod running;
+mod settling;
 mod unwinding;
 
 pub use acting::{instruct, instruct_in};

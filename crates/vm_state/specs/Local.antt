@@ -200,10 +200,11 @@ pub record LocalAfter : Type 0 where
   pub step : LocalStep
   pub thread : Thread
 
--- the code did this, or lacked memory and changed nothing
+-- the code did this, or lacked memory; only a step that is made changes the thread
 abbrev pub IsLocal : LocalAfter → LocalStep → Thread → Thread → Type 0
 IsLocal a step.Memory old new = new ≡ old
-IsLocal a other old new = (other ≡ a.step) × (new ≡ a.thread)
+IsLocal a step.Stepped old new = (step.Stepped ≡ a.step) × (new ≡ a.thread)
+IsLocal a other old new = (other ≡ a.step) × (new ≡ a.thread) × (new ≡ old)
 
 abbrev pub stays : Thread → LocalStep → LocalAfter
 stays t s = record { step = s; thread = t }

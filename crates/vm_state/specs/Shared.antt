@@ -19,6 +19,8 @@ use Rattle.vm_state.specs.declared.heap.Object.{Object}
 use Rattle.vm_state.specs.declared.heap.Init.{Init}
 use Rattle.vm_state.specs.declared.heap.Init.TheVariants as init
 use Rattle.vm_state.specs.declared.target.Target.{Target}
+use Rattle.vm_state.specs.declared.outcomes.Readiness.{Readiness}
+use Rattle.vm_state.specs.declared.outcomes.Readiness.TheVariants.{Usable, Fresh, Busy, Failed, Lacks, Begins}
 use Rattle.vm_state.specs.declared.outcomes.Effect.{Effect}
 use Rattle.vm_state.specs.declared.outcomes.Effect.TheVariants as effect
 use Rattle.vm_state.specs.declared.outcomes.HeapEffect.{HeapEffect}
@@ -140,29 +142,39 @@ make k h f class =
 -- ---- the class that an instruction needs (JVMS 5.5)
 
 -- an initialiser that has code is entered
-abbrev pub entered : Heap → Frame → ℕ → ℕ → ℕ → Option Code → Shared
-entered h f thread class method None = rests h f (Stuck NoMethod)
-entered h f thread class method (Some code) = record {
-  effect = Initialise (record { class = class; method = method });
-  heap = with_init h class (init.Running thread);
-  frame = f;
-}
+abbrev pub enters : ℕ → ℕ → Option Code → Readiness
+enters class method None = Lacks NoMethod
+enters class method (Some code) = Begins (record { class = class; method = method })
 
 -- a class without an initialiser is ready within the step
-abbrev pub begins_by : Linked → Heap → Frame → ℕ → ℕ → (Heap → Shared) → Option ℕ → Shared
-begins_by k h f thread class go None = go (with_init h class init.Ready)
-begins_by k h f thread class go (Some method) = entered h f thread class method (code_of k class method)
+abbrev pub begins : Linked → ℕ → Option ℕ → Readiness
+begins k class None = Fresh
+begins k class (Some method) = enters class method (code_of k class method)
 
-abbrev pub begins : Linked → Heap → Frame → ℕ → ℕ → (Heap → Shared) → Option LinkedClass → Shared
-begins k h f thread class go None = rests h f (Stuck WrongKind)
-begins k h f thread class go (Some c) = begins_by k h f thread class go c.initialiser
+abbrev pub begun : Linked → ℕ → Option LinkedClass → Readiness
+begun k class None = Lacks WrongKind
+begun k class (Some c) = begins k class c.initialiser
 
-abbrev pub needing : Linked → Heap → Frame → ℕ → ℕ → (Heap → Shared) → Option Init → Shared
-needing k h f thread class go None = rests h f (Stuck WrongKind)
-needing k h f thread class go (Some init.NotYet) = begins k h f thread class go (slice_get k.classes class)
-needing k h f thread class go (Some (init.Running other)) = if nat_eq other thread then go h else rests h f Waits
-needing k h f thread class go (Some init.Ready) = go h
-needing k h f thread class go (Some init.Bad) = rests h f (Fail NO_CLASS_DEF_FOUND_ERROR)
+-- how far a thread finds a class initialised
+abbrev pub readiness : Linked → ℕ → ℕ → Option Init → Readiness
+readiness k thread class None = Lacks WrongKind
+readiness k thread class (Some init.NotYet) = begun k class (slice_get k.classes class)
+readiness k thread class (Some (init.Running other)) = if nat_eq other thread then Usable else Busy
+readiness k thread class (Some init.Ready) = Usable
+readiness k thread class (Some init.Bad) = Failed
+
+-- an instruction goes on where its class may be used
+abbrev pub by_readiness : Heap → Frame → ℕ → ℕ → (Heap → Shared) → Readiness → Shared
+by_readiness h f thread class go Usable = go h
+by_readiness h f thread class go Fresh = go (with_init h class init.Ready)
+by_readiness h f thread class go Busy = rests h f Waits
+by_readiness h f thread class go Failed = rests h f (Fail NO_CLASS_DEF_FOUND_ERROR)
+by_readiness h f thread class go (Lacks kind) = rests h f (Stuck kind)
+by_readiness h f thread class go (Begins target) =
+    record { effect = Initialise target; heap = with_init h class (init.Running thread); frame = f }
+
+abbrev pub needing : Linked → Heap → Frame → ℕ → ℕ → (Heap → Shared) → Shared
+needing k h f thread class go = by_readiness h f thread class go (readiness k thread class (slice_get h.inits class))
 
 -- ---- texts
 

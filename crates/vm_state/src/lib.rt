@@ -30,7 +30,7 @@ pub use linkage::{
     class_of, code_of, instr_at, instr_in, is_initialiser, is_of, is_result, method_of, ref_at,
 };
 pub use operands::Operands;
-pub use outcomes::{Effect, HeapEffect, HeapMove, LocalStep, StuckKind};
+pub use outcomes::{Effect, HeapEffect, HeapMove, LocalStep, Readiness, StuckKind};
 pub use pushes::{pop_off, push, replace_top, skip};
 pub use seq::Seq;
 pub use stack::Stack;

@@ -76,3 +76,20 @@ pub enum HeapMove {
     Stuck(StuckKind),
     Memory,
 }
+
+/// How far a thread finds a class initialised that it needs (JVMS 5.5).
+#[derive(Clone, Copy, Debug)]
+pub enum Readiness {
+    /// It may be used.
+    Usable,
+    /// It has no initialiser, and may be used from now on.
+    Fresh,
+    /// Another thread initialises it.
+    Busy,
+    /// Its initialiser threw.
+    Failed,
+    /// It can't be initialised.
+    Lacks(StuckKind),
+    /// Its initialiser is entered.
+    Begins(Target),
+}
