@@ -3,12 +3,12 @@
 
 mod fields;
 mod initialising;
+mod needing;
 mod objects;
 mod statics;
 mod texts;
 
 pub use fields::{get_field, put_field};
 pub use initialising::readiness;
-pub use objects::make;
-pub use statics::{get_static, put_static};
+pub use needing::{gets_static, makes, puts_static};
 pub use texts::{if_same_texts, same_texts};

@@ -7,3 +7,4 @@ pub mod Methods
 pub mod Local
 pub mod Heaps
 pub mod Shared
+pub mod Needing
