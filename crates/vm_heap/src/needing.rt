@@ -41,7 +41,12 @@ fn get_ready(
                 set_init(h, class, Init::Ready);
                 HeapEffect::Done
             }
-            other => other,
+            HeapEffect::Stuck(kind) => HeapEffect::Stuck(kind),
+            HeapEffect::Waits => HeapEffect::Memory,
+            HeapEffect::Fail(_) => HeapEffect::Memory,
+            HeapEffect::Call { .. } => HeapEffect::Memory,
+            HeapEffect::Initialise(_) => HeapEffect::Memory,
+            HeapEffect::Memory => HeapEffect::Memory,
         },
         Readiness::Busy => HeapEffect::Waits,
         Readiness::Failed => HeapEffect::Fail(NO_CLASS_DEF_FOUND_ERROR),
@@ -71,7 +76,12 @@ fn put_ready(
                 set_init(h, class, Init::Ready);
                 HeapEffect::Done
             }
-            other => other,
+            HeapEffect::Stuck(kind) => HeapEffect::Stuck(kind),
+            HeapEffect::Waits => HeapEffect::Memory,
+            HeapEffect::Fail(_) => HeapEffect::Memory,
+            HeapEffect::Call { .. } => HeapEffect::Memory,
+            HeapEffect::Initialise(_) => HeapEffect::Memory,
+            HeapEffect::Memory => HeapEffect::Memory,
         },
         Readiness::Busy => HeapEffect::Waits,
         Readiness::Failed => HeapEffect::Fail(NO_CLASS_DEF_FOUND_ERROR),
@@ -101,7 +111,12 @@ fn make_ready(
                 set_init(h, class, Init::Ready);
                 HeapEffect::Done
             }
-            other => other,
+            HeapEffect::Stuck(kind) => HeapEffect::Stuck(kind),
+            HeapEffect::Waits => HeapEffect::Memory,
+            HeapEffect::Fail(_) => HeapEffect::Memory,
+            HeapEffect::Call { .. } => HeapEffect::Memory,
+            HeapEffect::Initialise(_) => HeapEffect::Memory,
+            HeapEffect::Memory => HeapEffect::Memory,
         },
         Readiness::Busy => HeapEffect::Waits,
         Readiness::Failed => HeapEffect::Fail(NO_CLASS_DEF_FOUND_ERROR),

@@ -2,7 +2,7 @@
 
 ghost use Rattle.std.specs.Prelude.{◌≡◌, ◌<◌, IfOk, map};
 ghost use Rattle.vm_state.specs.Heaps.{default, blank};
-ghost use Rattle.vm_state.specs.Shared.{Shares, make};
+ghost use Rattle.vm_state.specs.Shared.{Shares, IsPlain, make};
 
 use cf_link::{Linked, Slot, ValueKind, slots_of};
 use std::alloc::{AllocError, Global};
@@ -41,7 +41,8 @@ fn blank(alloc: Global, k: &Linked, class: u32) -> Result<Object, AllocError>
 /// Makes an object of a class that may be used, and pushes it.
 pub fn make(alloc: Global, k: &Linked, h: &mut Heap, f: &mut Frame, class: u32) -> HeapEffect
     requires { f.old.pc < 65535 }
-    ensures { Shares (make k.now h.old f.old class) result h.old h.new f.old f.new }
+    ensures shares { Shares (make k.now h.old f.old class) result h.old h.new f.old f.new }
+    ensures plain { IsPlain result }
 {
     if !f.stack.fits(1) {
         return HeapEffect::Stuck(StuckKind::Stack);

@@ -3,7 +3,7 @@
 ghost use Rattle.std.specs.Prelude.{◌≡◌, ◌∷◌, ◌<◌, ◌≤◌, length, drop, slice_get, slice_set};
 ghost use Rattle.std.specs.Option.{option_copied};
 ghost use Rattle.vm_state.specs.Heaps.{static_at};
-ghost use Rattle.vm_state.specs.Shared.{Shares, got, get_static, fits_static, static_written, put_static};
+ghost use Rattle.vm_state.specs.Shared.{Shares, IsPlain, got, get_static, fits_static, static_written, put_static};
 
 use cf_link::{Linked, LinkedField, statics_of};
 use vm_state::{Effect, Frame, Heap, HeapEffect, Seq, StuckKind, Value, pop_off, push};
@@ -23,7 +23,8 @@ fn static_at(h: &Heap, class: u32, n: u32) -> Option<Value>
 /// Pushes what a static holds.
 fn read(h: &Heap, f: &mut Frame, v: Option<Value>) -> HeapEffect
     requires { f.old.pc < 65535 }
-    ensures { Shares (got h.now f.old f.old.stack.values v) result h.now h.now f.old f.new }
+    ensures shares { Shares (got h.now f.old f.old.stack.values v) result h.now h.now f.old f.new }
+    ensures plain { IsPlain result }
 {
     match v {
         None => HeapEffect::Stuck(StuckKind::WrongKind),
@@ -38,7 +39,8 @@ fn read(h: &Heap, f: &mut Frame, v: Option<Value>) -> HeapEffect
 /// Pushes a static.
 pub fn get_static(h: &Heap, f: &mut Frame, class: u32, n: u32) -> HeapEffect
     requires { f.old.pc < 65535 }
-    ensures { Shares (get_static h.now f.old class n) result h.now h.now f.old f.new }
+    ensures shares { Shares (get_static h.now f.old class n) result h.now h.now f.old f.new }
+    ensures plain { IsPlain result }
 {
     read(h, f, static_at(h, class, n))
 }
@@ -62,7 +64,8 @@ fn set(statics: &mut Seq<Value>, n: u32, v: Value)
 
 fn write(h: &mut Heap, f: &mut Frame, class: u32, n: u32, v: Value) -> HeapEffect
     requires { f.old.pc < 65535 }
-    ensures { Shares (static_written h.old f.old class n v (drop 1 f.old.stack.values) (slice_get h.old.statics class)) result h.old h.new f.old f.new }
+    ensures shares { Shares (static_written h.old f.old class n v (drop 1 f.old.stack.values) (slice_get h.old.statics class)) result h.old h.new f.old f.new }
+    ensures plain { IsPlain result }
 {
     match h.statics.get(class as usize) {
         None => return HeapEffect::Stuck(StuckKind::WrongKind),
@@ -80,7 +83,8 @@ fn write(h: &mut Heap, f: &mut Frame, class: u32, n: u32, v: Value) -> HeapEffec
 /// Stores the value on top into a static.
 pub fn put_static(k: &Linked, h: &mut Heap, f: &mut Frame, class: u32, n: u32) -> HeapEffect
     requires { f.old.pc < 65535 }
-    ensures { Shares (put_static k.now h.old f.old class n f.old.stack.values) result h.old h.new f.old f.new }
+    ensures shares { Shares (put_static k.now h.old f.old class n f.old.stack.values) result h.old h.new f.old f.new }
+    ensures plain { IsPlain result }
 {
     match f.stack.top() {
         None => HeapEffect::Stuck(StuckKind::Stack),

@@ -1,5 +1,5 @@
 -- Many instructions of one frame, and many local steps of a thread.
-use Rattle.std.specs.Prelude.{◌≡◌, ℕ, zero, suc, List, [], ◌∷◌, Option, Some, None}
+use Rattle.std.specs.Prelude.{◌≡◌, ℕ, zero, suc, ◌+◌, ◌<◌, List, [], ◌∷◌, Option, Some, None}
 use Rattle.cf_link.specs.declared.linked.Linked.{Linked}
 use Rattle.vm_state.specs.declared.frame.Frame.{Frame}
 use Rattle.vm_state.specs.declared.thread.Thread.{Thread}
@@ -21,10 +21,15 @@ abbrev pub AllStay : Linked → ℕ → Frame → Type 0
 AllStay k zero f = Unit {0}
 AllStay k (suc n) f = AllStay k n f × ((instructed k (after k n f)).effect ≡ Done)
 
+-- all instructions were made, or fewer where the next one leaves the frame
+abbrev pub IsCut : Option Effect → ℕ → ℕ → Type 0
+IsCut None count most = count ≡ most
+IsCut (Some e) count most = count < most
+
 -- the next instruction leaves the frame so, where it does
-abbrev pub Leaves : Linked → Frame → Effect → Type 0
-Leaves k f Done = Unit {0}
-Leaves k f e = ((instructed k f).effect ≡ e) × ((instructed k f).frame ≡ f)
+abbrev pub Leaves : Linked → Frame → Option Effect → Type 0
+Leaves k f None = Unit {0}
+Leaves k f (Some e) = ((instructed k f).effect ≡ e) × ((instructed k f).frame ≡ f)
 
 -- the thread after n local steps
 abbrev pub locals_after : Linked → ℕ → Thread → Thread
@@ -49,9 +54,14 @@ settled_top k t [] e = stays t Ended
 settled_top k t (f ∷ fs) e = settled k t fs f e
 
 -- the thread's next step is what this effect does, where it leaves the frame
-abbrev pub LeavesTop : Linked → Thread → Effect → Type 0
-LeavesTop k t Done = Unit {0}
-LeavesTop k t e = local_step k t ≡ settled_top k t t.frames e
+abbrev pub LeavesTop : Linked → Thread → Option Effect → Type 0
+LeavesTop k t None = Unit {0}
+LeavesTop k t (Some e) = local_step k t ≡ settled_top k t t.frames e
+
+-- so many steps, and one more where it was made
+abbrev pub counted : ℕ → LocalStep → ℕ
+counted count Stepped = count + 1
+counted count _ = count
 
 -- what the thread's next step is; that of a step which was made, or lacked memory, isn't told
 abbrev pub Tells : Linked → Thread → LocalStep → Type 0

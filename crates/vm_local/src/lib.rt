@@ -18,6 +18,7 @@ mod settling;
 mod unwinding;
 
 pub use acting::{instruct, instruct_in};
+pub use batch::{Batch, run_some};
 pub use laws::batches;
 pub use local_step::local;
 pub use running::{Ran, run_frame};

@@ -37,16 +37,19 @@ pub record Shared : Type 0 where
   pub heap : Heap
   pub frame : Frame
 
--- an instruction that can't be made changes nothing
-abbrev pub IsUntouched : HeapEffect → Heap → Heap → Frame → Frame → Type 0
-IsUntouched Waits h h' f f' = (h' ≡ h) × (f' ≡ f)
-IsUntouched (Stuck kind) h h' f f' = (h' ≡ h) × (f' ≡ f)
-IsUntouched _ h h' f f' = Unit {0}
-
--- the code did this, or lacked memory and changed nothing
+-- the code did this, or lacked memory; an instruction that can't be made changes nothing
 abbrev pub Shares : Shared → HeapEffect → Heap → Heap → Frame → Frame → Type 0
 Shares a Memory h h' f f' = (h' ≡ h) × (f' ≡ f)
-Shares a e h h' f f' = (e ≡ a.effect) × (h' ≡ a.heap) × (f' ≡ a.frame) × IsUntouched e h h' f f'
+Shares a Waits h h' f f' = (Waits ≡ a.effect) × (h' ≡ h) × (f' ≡ f)
+Shares a (Stuck kind) h h' f f' = (Stuck kind ≡ a.effect) × (h' ≡ h) × (f' ≡ f)
+Shares a e h h' f f' = (e ≡ a.effect) × (h' ≡ a.heap) × (f' ≡ a.frame)
+
+-- the instruction is made or can't be made, and does nothing else
+abbrev pub IsPlain : HeapEffect → Type 0
+IsPlain Done = Unit {0}
+IsPlain (Stuck kind) = Unit {0}
+IsPlain Memory = Unit {0}
+IsPlain _ = ⊥
 
 abbrev pub rests : Heap → Frame → HeapEffect → Shared
 rests h f e = record { effect = e; heap = h; frame = f }

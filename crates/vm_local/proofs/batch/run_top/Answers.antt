@@ -25,6 +25,5 @@ returns c =
       all = run.1;
       thread = ap (λ h. with_frames t (h ∷ fs)) c.run_frame.ensures.frame ∙ sym run.0;
       frames = omega arith;
-      leaves = leaves_top c.args.k.now (with_frames t (g ∷ fs)) g fs c.run_frame.result.effect refl c.requires.thrown c.run_frame.ensures.leaves;
-      whole = c.run_frame.ensures.all;
+      leaves = leaves_top c.args.k.now (with_frames t (g ∷ fs)) g fs c.run_frame.result.left refl c.requires.thrown c.run_frame.ensures.leaves;
     }
