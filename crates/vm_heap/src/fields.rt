@@ -55,13 +55,7 @@ fn gets_field(k: &Linked, h: &Heap, f: &mut Frame, class: u32, n: u32, v: Value)
     }
 }
 
-fn field_named(
-    k: &Linked,
-    h: &Heap,
-    f: &mut Frame,
-    r: Option<LinkedRef>,
-    v: Value,
-) -> HeapEffect
+fn field_named(k: &Linked, h: &Heap, f: &mut Frame, r: Option<LinkedRef>, v: Value) -> HeapEffect
     requires pc { f.old.pc < 65535 }
     requires some { 0 < length f.old.stack.values }
     ensures { Shares (field_named k.now h.now f.old r v (drop 1 f.old.stack.values)) result h.now h.now f.old f.new }

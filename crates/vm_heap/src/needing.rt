@@ -23,14 +23,7 @@ fn set_init(h: &mut Heap, class: u32, init: Init)
     }
 }
 
-fn get_ready(
-    k: &Linked,
-    h: &mut Heap,
-    f: &mut Frame,
-    thread: u32,
-    class: u32,
-    n: u32,
-) -> HeapEffect
+fn get_ready(k: &Linked, h: &mut Heap, f: &mut Frame, thread: u32, class: u32, n: u32) -> HeapEffect
     requires { f.old.pc < 65535 }
     ensures { Shares (needing k.now h.old f.old thread class (λ g. get_static g f.old class n)) result h.old h.new f.old f.new }
 {
@@ -58,14 +51,7 @@ fn get_ready(
     }
 }
 
-fn put_ready(
-    k: &Linked,
-    h: &mut Heap,
-    f: &mut Frame,
-    thread: u32,
-    class: u32,
-    n: u32,
-) -> HeapEffect
+fn put_ready(k: &Linked, h: &mut Heap, f: &mut Frame, thread: u32, class: u32, n: u32) -> HeapEffect
     requires { f.old.pc < 65535 }
     ensures { Shares (needing k.now h.old f.old thread class (λ g. put_static k.now g f.old class n f.old.stack.values)) result h.old h.new f.old f.new }
 {

@@ -27,10 +27,7 @@ pub enum Effect {
     AtHeap,
     Stuck(StuckKind),
     /// A method is called, with so many operands as arguments.
-    Call {
-        target: Target,
-        count: usize,
-    },
+    Call { target: Target, count: usize },
     /// The method ends, with a value or without.
     Return(Option<Value>),
     Throw(Value),
@@ -59,10 +56,7 @@ pub enum HeapEffect {
     /// An exception of this class is made and thrown.
     Fail(u32),
     /// A method is called, with so many operands as arguments.
-    Call {
-        target: Target,
-        count: usize,
-    },
+    Call { target: Target, count: usize },
     /// The initialiser of a class is entered; the instruction is made after it.
     Initialise(Target),
     Memory,

@@ -12,20 +12,14 @@ pub enum Value {
     Long(i64),
     Null,
     /// An object, with its class.
-    Ref {
-        at: u32,
-        class: u32,
-    },
+    Ref { at: u32, class: u32 },
     Text(u32),
     BoxInt(i32),
     BoxLong(i64),
     BoxBool(bool),
     BoxUnit,
     /// A latch, with the thread that it names.
-    Latch {
-        at: u32,
-        owner: u32,
-    },
+    Latch { at: u32, owner: u32 },
     /// The control value that names a thread whose initialiser runs.
     Evaluating(u32),
     /// The control value that stands for a stored null.

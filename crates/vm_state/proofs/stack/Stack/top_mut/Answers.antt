@@ -10,8 +10,10 @@ returns g c =
     let len : c.len-last.result ≡ length xs = omega (arith, c.self.inside.items.ok.0) in
     let all = ap length c.self.view_is in
     let some : 0 < length xs = omega (arith, length-reverse xs) in
-    let d = c.index_mut.result.now in
-    ((refl, λ w. ap (λ k. reverse (slice_set xs (k - 1) w)) len ∙ reverse-set_last xs w some ∙ ap (λ l. w ∷ drop 1 l) c.self.view_is), record {
-      writes_back = tt;
-      value = ap (λ l. slice_get l 0) (sym c.self.view_is) ∙ reverse-get_last xs d some ∙ ap (λ k. Some (get_or xs (k - 1) d)) (sym len) ∙ ap Some (sym c.index_mut.ensures.value);
-    })
+    let d = c.index_mut.result.now in (
+      (refl, λ w. ap (λ k. reverse (slice_set xs (k - 1) w)) len ∙ reverse-set_last xs w some ∙ ap (λ l. w ∷ drop 1 l) c.self.view_is),
+      record {
+        writes_back = tt;
+        value = ap (λ l. slice_get l 0) (sym c.self.view_is) ∙ reverse-get_last xs d some ∙ ap (λ k. Some (get_or xs (k - 1) d)) (sym len) ∙ ap Some (sym c.index_mut.ensures.value);
+      },
+    )

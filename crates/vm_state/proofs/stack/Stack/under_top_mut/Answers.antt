@@ -10,8 +10,10 @@ returns g c =
     let len : c.len-at.result ≡ length xs = omega (arith, c.self.inside.items.ok.0) in
     let all = ap length c.self.view_is in
     let some : 1 < length xs = omega (arith, length-reverse xs) in
-    let d = c.index_mut.result.now in
-    ((refl, λ w. ap (λ k. reverse (slice_set xs (k - 2) w)) len ∙ reverse-set_under xs w some ∙ ap (λ l. slice_set l 1 w) c.self.view_is), record {
-      writes_back = tt;
-      value = ap (λ l. slice_get l 1) (sym c.self.view_is) ∙ reverse-get_under xs d some ∙ ap (λ k. Some (get_or xs (k - 2) d)) (sym len) ∙ ap Some (sym c.index_mut.ensures.value);
-    })
+    let d = c.index_mut.result.now in (
+      (refl, λ w. ap (λ k. reverse (slice_set xs (k - 2) w)) len ∙ reverse-set_under xs w some ∙ ap (λ l. slice_set l 1 w) c.self.view_is),
+      record {
+        writes_back = tt;
+        value = ap (λ l. slice_get l 1) (sym c.self.view_is) ∙ reverse-get_under xs d some ∙ ap (λ k. Some (get_or xs (k - 2) d)) (sym len) ∙ ap Some (sym c.index_mut.ensures.value);
+      },
+    )
