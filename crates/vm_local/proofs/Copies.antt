@@ -129,18 +129,18 @@ two_length (v ∷ vs) (suc from) count e = omega (arith, two_length vs from coun
 pub whole_depth : (n : ℕ) (vs : List Value) (count : ℕ) → whole n vs 0 ≡ Some count → depth (take count vs) ≤ n
 whole_depth n vs count = by_tests (nat_eq n 1) (nat_eq n 2) refl refl
   where
-  by_tests : (one two : Bool) → nat_eq n 1 ≡ one → nat_eq n 2 ≡ two → (if one then one_place (slice_get vs 0) else (if two then two_places (slice_get vs 0) (slice_get vs 1) else Some 0)) ≡ Some count → depth (take count vs) ≤ n
-  by_tests true two is_one is_two e = let is : n ≡ 1 = grind (arith, nat_tests) in omega (arith, is, one_depth vs count e)
-  by_tests false true is_one is_two e = let is : n ≡ 2 = grind (arith, nat_tests) in omega (arith, is, two_depth vs count e)
-  by_tests false false is_one is_two e = let none : count ≡ 0 = cc in rw none (omega arith)
+    by_tests : (one two : Bool) → nat_eq n 1 ≡ one → nat_eq n 2 ≡ two → (if one then one_place (slice_get vs 0) else (if two then two_places (slice_get vs 0) (slice_get vs 1) else Some 0)) ≡ Some count → depth (take count vs) ≤ n
+    by_tests true two is_one is_two e = let is : n ≡ 1 = grind (arith, nat_tests) in omega (arith, is, one_depth vs count e)
+    by_tests false true is_one is_two e = let is : n ≡ 2 = grind (arith, nat_tests) in omega (arith, is, two_depth vs count e)
+    by_tests false false is_one is_two e = let none : count ≡ 0 = cc in rw none (omega arith)
 
 pub whole_length : (n : ℕ) (vs : List Value) (from count : ℕ) → from ≤ length vs → whole n vs from ≡ Some count → from + count ≤ length vs
 whole_length n vs from count there = by_tests (nat_eq n 1) (nat_eq n 2)
   where
-  by_tests : (one two : Bool) → (if one then one_place (slice_get vs from) else (if two then two_places (slice_get vs from) (slice_get vs (from + 1)) else Some 0)) ≡ Some count → from + count ≤ length vs
-  by_tests true two e = one_length vs from count e
-  by_tests false true e = two_length vs from count (rw add-one at e)
-  by_tests false false e = let none : count ≡ 0 = cc in omega (arith, none, there)
+    by_tests : (one two : Bool) → (if one then one_place (slice_get vs from) else (if two then two_places (slice_get vs from) (slice_get vs (from + 1)) else Some 0)) ≡ Some count → from + count ≤ length vs
+    by_tests true two e = one_length vs from count e
+    by_tests false true e = two_length vs from count (rw add-one at e)
+    by_tests false false e = let none : count ≡ 0 = cc in omega (arith, none, there)
 
 pub whole_more : (n m : ℕ) (vs : List Value) (count : ℕ) (found : Option ℕ) → whole n vs 0 ≡ Some count → found ≡ whole m vs count → IfSome found (λ more. more < 3) → IfSome found (λ more. (more < 3) × (count + more ≤ length vs))
 whole_more n m vs count None e f few = tt

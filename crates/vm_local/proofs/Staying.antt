@@ -1,5 +1,5 @@
 -- Instructions that stay in the innermost frame are local steps of its thread.
-use Rattle.std.proofs.Common.{◌≡◌, ℕ, zero, suc, List, ◌∷◌, None, refl, ap, ◌∙◌}
+use Rattle.std.proofs.Common.{◌≡◌, ℕ, zero, suc, List, ◌∷◌, None, ap, ◌∙◌}
 use Rattle.cf_link.specs.declared.linked.Linked.{Linked}
 use Rattle.vm_state.specs.declared.frame.Frame.{Frame}
 use Rattle.vm_state.specs.declared.thread.Thread.{Thread}

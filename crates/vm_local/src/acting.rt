@@ -17,7 +17,10 @@ use crate::locals::{increment, load, store};
 use crate::moves::{dup, pop, swap};
 use cf_form::{Code, Instr};
 use cf_link::Linked;
-use vm_state::{Action, Effect, Frame, StuckKind, Value, action_of, go, instr_at, instr_in, place, push, ref_at, skip};
+use vm_state::{
+    Action, Effect, Frame, StuckKind, Value, action_of, go, instr_at, instr_in, place, push,
+    ref_at, skip,
+};
 
 /// What an instruction does to its frame.
 #[inline(always)]

@@ -12,7 +12,9 @@ use cf_link::{
     Linked, LinkedMethod, LinkedRef, Native, ValueKind, chosen, conforms, is_static, method_at,
     methods_of, target,
 };
-use vm_state::{Effect, Frame, Invocation, Operands, StuckKind, Target, Value, class_of, is_of, ref_at};
+use vm_state::{
+    Effect, Frame, Invocation, Operands, StuckKind, Target, Value, class_of, is_of, ref_at,
+};
 
 #[inline(always)]
 fn aim(f: &Frame, target: Target, count: usize, m: Option<&LinkedMethod>) -> Effect
@@ -21,10 +23,7 @@ fn aim(f: &Frame, target: Target, count: usize, m: Option<&LinkedMethod>) -> Eff
     match m {
         None => Effect::Stuck(StuckKind::NoMethod),
         Some(m) => match &m.code {
-            Some(_) => Effect::Call {
-                target,
-                count,
-            },
+            Some(_) => Effect::Call { target, count },
             None => match m.native {
                 Some(_) => Effect::AtHeap,
                 None => Effect::Stuck(StuckKind::NoMethod),
@@ -133,7 +132,9 @@ fn invoke_on(
     match f.stack.get(kinds.len()) {
         None => Effect::Stuck(StuckKind::Stack),
         Some(v) => {
-            if !is_static(m.access) && (v.is_kind(ValueKind::Reference) && are_arguments(kinds, &f.stack)) {
+            if !is_static(m.access)
+                && (v.is_kind(ValueKind::Reference) && are_arguments(kinds, &f.stack))
+            {
                 receive(k, f, how, of, number, kinds.len() + 1, v)
             } else {
                 Effect::Stuck(StuckKind::WrongKind)

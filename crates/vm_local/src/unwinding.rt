@@ -7,7 +7,9 @@ ghost use Rattle.vm_state.specs.Local.{IsLocal, takes, covers, handler, handlers
 
 use cf_form::Handler;
 use cf_link::{Linked, LinkedRef, conforms};
-use vm_state::{Frame, LocalStep, StuckKind, Thread, Value, class_of, code_of, is_initialiser, ref_at};
+use vm_state::{
+    Frame, LocalStep, StuckKind, Thread, Value, class_of, code_of, is_initialiser, ref_at,
+};
 
 fn takes(k: &Linked, e: Value, r: Option<LinkedRef>) -> bool
     ensures { result ≡ takes k.now e r }

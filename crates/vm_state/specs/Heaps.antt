@@ -1,5 +1,5 @@
 -- The heap: new objects and texts, and what exceptions the machine makes (JVMS 2.3, 2.4, 2.10).
-use Rattle.std.specs.Prelude.{ℕ, pos, ◌==◌, Bool, if◌then◌else◌, nat_eq, List, [], ◌∷◌, ◌++◌, length, map, Option, Some, None, codes, option_and_then, slice_get, slice_set}
+use Rattle.std.specs.Prelude.{ℕ, pos, ◌==◌, if◌then◌else◌, nat_eq, List, [], ◌∷◌, ◌++◌, length, map, Option, codes, option_and_then, slice_get, slice_set}
 use Rattle.std.specs.List.{list_any}
 use Rattle.cf_link.specs.declared.linked.Linked.{Linked}
 use Rattle.cf_link.specs.declared.value_kind.ValueKind.{ValueKind}

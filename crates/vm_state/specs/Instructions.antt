@@ -1,5 +1,5 @@
 -- What an instruction that looks at its own frame alone does to it (JVMS 6.5).
-use Rattle.std.specs.Prelude.{◌≡◌, ℕ, zero, ℤ, pos, negsuc, ◌+◌, ◌&&◌, ◌||◌, not, Bool, true, false, if◌then◌else◌, nat_eq, nat_le, int_lt, List, [], ◌∷◌, ◌++◌, length, take, drop, Option, Some, None, slice_get, slice_set}
+use Rattle.std.specs.Prelude.{◌≡◌, ℕ, ℤ, pos, negsuc, ◌+◌, ◌&&◌, ◌||◌, not, Bool, true, false, if◌then◌else◌, nat_eq, nat_le, int_lt, List, [], ◌∷◌, ◌++◌, length, take, drop, Option, Some, None, slice_get, slice_set}
 use Rattle.std.specs.Ordering.{int_eq}
 use Rattle.sl_num.specs.declared.int_op.IntOp.{IntOp}
 use Rattle.sl_num.specs.declared.int_op.IntOp.TheVariants.{Add, Sub}
@@ -15,10 +15,9 @@ use Rattle.vm_state.specs.declared.action.Comparison.{Comparison}
 use Rattle.vm_state.specs.declared.action.Comparison.TheVariants as compare
 use Rattle.vm_state.specs.declared.action.Division.{Division}
 use Rattle.vm_state.specs.declared.action.Division.TheVariants.{Quotient, Remainder}
-use Rattle.vm_state.specs.declared.outcomes.StuckKind.{StuckKind}
 use Rattle.vm_state.specs.declared.outcomes.StuckKind.TheVariants.{Stack, LocalOut, WrongKind, PcOut}
 use Rattle.vm_state.specs.declared.outcomes.Effect.{Effect}
-use Rattle.vm_state.specs.declared.outcomes.Effect.TheVariants.{Done, AtHeap, Stuck, Return}
+use Rattle.vm_state.specs.declared.outcomes.Effect.TheVariants.{Done, AtHeap, Stuck}
 use Rattle.vm_state.specs.Values.{width, depth, kind_width, as_int, as_long, is_kind, is_null, is_text, is_same}
 
 -- what an instruction does beside, and the frame after it

@@ -1,5 +1,5 @@
 -- Local steps: what an instruction does to its frame, and a frame to its thread (JVMS 2.6, 2.10, 6.5).
-use Rattle.std.specs.Prelude.{◌≡◌, ℕ, ℤ, pos, ◌+◌, ◌-◌, ◌&&◌, ◌||◌, not, Bool, true, false, if◌then◌else◌, nat_eq, nat_le, nat_lt, List, [], ◌∷◌, ◌++◌, length, take, drop, replicate, Option, Some, None, option_and_then, slice_get}
+use Rattle.std.specs.Prelude.{◌≡◌, ℕ, pos, ◌+◌, ◌-◌, ◌&&◌, ◌||◌, not, Bool, true, false, if◌then◌else◌, nat_eq, nat_le, nat_lt, List, [], ◌∷◌, ◌++◌, length, take, drop, replicate, Option, Some, None, slice_get}
 use Rattle.cf_form.specs.declared.code.Code.{Code}
 use Rattle.cf_form.specs.declared.code.Handler.{Handler}
 use Rattle.cf_form.specs.declared.instr.Instr.{Instr}
@@ -22,7 +22,6 @@ use Rattle.vm_state.specs.declared.action.Action.{Action}
 use Rattle.vm_state.specs.declared.action.Action.TheVariants as act
 use Rattle.vm_state.specs.declared.action.Invocation.{Invocation}
 use Rattle.vm_state.specs.declared.action.Invocation.TheVariants.{Special}
-use Rattle.vm_state.specs.declared.outcomes.StuckKind.{StuckKind}
 use Rattle.vm_state.specs.declared.outcomes.StuckKind.TheVariants.{Stack, LocalOut, WrongKind, PcOut, NoMethod}
 use Rattle.vm_state.specs.declared.outcomes.Effect.{Effect}
 use Rattle.vm_state.specs.declared.outcomes.Effect.TheVariants.{Done, AtHeap, Stuck, Call, Return, Throw}

@@ -1,5 +1,5 @@
 -- What frames and instructions name: methods, code, entries of the constant pool, classes (JVMS 2.6, 5.4, 6.5).
-use Rattle.std.specs.Prelude.{◌≡◌, ℕ, zero, suc, ℤ, ◌&&◌, ◌||◌, Bool, true, false, if◌then◌else◌, nat_eq, nat_lt, List, [], ◌∷◌, length, Option, Some, None, option_and_then, slice_get}
+use Rattle.std.specs.Prelude.{ℕ, zero, suc, ℤ, ◌&&◌, Bool, true, false, if◌then◌else◌, nat_eq, nat_lt, List, [], ◌∷◌, length, Option, Some, None, option_and_then, slice_get}
 use Rattle.cf_form.specs.declared.code.Code.{Code}
 use Rattle.cf_form.specs.declared.instr.Instr.{Instr}
 use Rattle.cf_link.specs.declared.linked.Linked.{Linked}

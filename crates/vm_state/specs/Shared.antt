@@ -1,5 +1,5 @@
 -- Instructions on fields, statics, new objects and texts, and the initialisation of classes (JVMS 5.5, 6.5).
-use Rattle.std.specs.Prelude.{◌≡◌, ℕ, ℤ, ◌+◌, ◌&&◌, Bool, true, false, not, if◌then◌else◌, nat_eq, nat_le, nat_lt, List, [], ◌∷◌, ◌++◌, length, drop, Option, Some, None, option_and_then, slice_get}
+use Rattle.std.specs.Prelude.{◌≡◌, ℕ, ℤ, Bool, false, not, if◌then◌else◌, nat_eq, nat_lt, List, [], ◌∷◌, length, Option, Some, None, slice_get}
 use Rattle.std.specs.Str.{bytes_eq}
 use Rattle.cf_form.specs.declared.code.Code.{Code}
 use Rattle.cf_link.specs.declared.linked.Linked.{Linked}
@@ -8,7 +8,6 @@ use Rattle.cf_link.specs.declared.member.LinkedField.{LinkedField}
 use Rattle.cf_link.specs.declared.member.Slot.{Slot}
 use Rattle.cf_link.specs.declared.reference.LinkedRef.{LinkedRef}
 use Rattle.cf_link.specs.declared.reference.LinkedRef.TheVariants as ref
-use Rattle.cf_link.specs.declared.value_kind.ValueKind.{ValueKind}
 use Rattle.cf_link.specs.declared.built_in.TheConstants.{NULL_POINTER_EXCEPTION, NO_CLASS_DEF_FOUND_ERROR}
 use Rattle.cf_link.specs.Classes.{conforms, slots_of, statics_of}
 use Rattle.vm_state.specs.declared.value.Value.{Value}
@@ -18,7 +17,6 @@ use Rattle.vm_state.specs.declared.heap.Heap.{Heap}
 use Rattle.vm_state.specs.declared.heap.Object.{Object}
 use Rattle.vm_state.specs.declared.heap.Init.{Init}
 use Rattle.vm_state.specs.declared.heap.Init.TheVariants as init
-use Rattle.vm_state.specs.declared.target.Target.{Target}
 use Rattle.vm_state.specs.declared.outcomes.Readiness.{Readiness}
 use Rattle.vm_state.specs.declared.outcomes.Readiness.TheVariants.{Usable, Fresh, Busy, Failed, Lacks, Begins}
 use Rattle.vm_state.specs.declared.outcomes.Effect.{Effect}
@@ -26,9 +24,9 @@ use Rattle.vm_state.specs.declared.outcomes.Effect.TheVariants as effect
 use Rattle.vm_state.specs.declared.outcomes.HeapEffect.{HeapEffect}
 use Rattle.vm_state.specs.declared.outcomes.HeapEffect.TheVariants.{Done, Waits, Stuck, Fail, Initialise, Memory}
 use Rattle.vm_state.specs.declared.outcomes.StuckKind.TheVariants.{Stack, WrongKind, NoMethod}
-use Rattle.vm_state.specs.Values.{width, depth, is_kind}
+use Rattle.vm_state.specs.Values.{is_kind}
 use Rattle.vm_state.specs.Instructions.{After, next, pushed, branches}
-use Rattle.vm_state.specs.Methods.{code_of, is_of}
+use Rattle.vm_state.specs.Methods.{code_of}
 use Rattle.vm_state.specs.Heaps.{blank, with_object, with_init, field_at, set_field, static_at, set_static}
 
 -- what an instruction does beside, and the heap and the frame after it

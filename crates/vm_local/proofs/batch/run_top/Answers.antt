@@ -1,5 +1,4 @@
-use Rattle.std.proofs.Common.{◌≡◌, ◌∷◌, Some, drop, length, refl, sym, ap, ◌∙◌, arith}
-use Rattle.vm_state.specs.Methods.{code_of}
+use Rattle.std.proofs.Common.{◌∷◌, drop, refl, sym, ap, ◌∙◌, arith}
 use Rattle.vm_local.specs.Batches.{top_code}
 use Rattle.vm_local.proofs.Staying.{with_frames, frames_run}
 use Rattle.vm_local.proofs.Leaving.{top_is, leaves_top}

@@ -1,4 +1,4 @@
-use Rattle.std.proofs.Common.{◌≡◌, List, Option, sym, ap, ◌∙◌, subst, w32, rules}
+use Rattle.std.proofs.Common.{List, Option, sym, ap, ◌∙◌, subst, w32, rules}
 use Rattle.std.proofs.lemmas.Int.{to_z-of_z}
 use Rattle.cf_link.specs.declared.reference.LinkedRef.{LinkedRef}
 use Rattle.vm_state.specs.declared.value.Value.{Value}

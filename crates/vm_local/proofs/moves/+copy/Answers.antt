@@ -1,11 +1,11 @@
-use Rattle.std.proofs.Common.{◌≡◌, ◌+◌, ◌-◌, ◌∷◌, ◌++◌, ◌<◌, ◌≤◌, suc, length, take, drop, Some, None, sym, ap, ◌∙◌, arith}
+use Rattle.std.proofs.Common.{◌≡◌, ◌-◌, suc, length, take, Some, sym, ap, ◌∙◌, arith}
 use Rattle.std.specs.Prelude.{slice_get}
 use Rattle.std.proofs.lemmas.Option.{slice_get-get_or}
 use Rattle.vm_state.specs.Held.{Held}
 use Rattle.vm_state.specs.declared.value.Value.TheVariants.{Null}
-use Rattle.vm_state.specs.Values.{width, depth}
+use Rattle.vm_state.specs.Values.{depth}
 use Rattle.vm_state.specs.Instructions.{with_copies}
-use Rattle.vm_local.proofs.Copies.{held, insert_at, depth_insert, length_insert, take_insert, depth_one_more, copied}
+use Rattle.vm_local.proofs.Copies.{held, depth_insert, length_insert, take_insert, depth_one_more, copied}
 use Rattle.vm_local.proofs.moves.+copy.Goals as goal
 
 pub copy-requires : goal.copy-requires
@@ -19,11 +19,16 @@ copy-requires t c =
     let values = ap (λ (h : Held). h.values) c.insert.ensures in
     let room = ap (λ (h : Held). h.room) c.insert.ensures in
     let kept = take_insert k n v vs (omega arith) c.requires.there in
-    let more = depth_one_more k v vs is in
-    ( omega arith
-    , ( omega arith
-    , ( omega (arith, ap length values, length_insert n v vs)
-    , omega (arith, ap depth values, depth_insert n v vs, ap (λ l. depth (take k l)) values, ap depth kept, room, more, ap (λ m. depth (take m vs)) one))))
+    let more = depth_one_more k v vs is in (
+      omega arith,
+      (
+        omega arith,
+        (
+          omega (arith, ap length values, length_insert n v vs),
+          omega (arith, ap depth values, depth_insert n v vs, ap (λ l. depth (take k l)) values, ap depth kept, room, more, ap (λ m. depth (take m vs)) one),
+        ),
+      ),
+    )
 
 pub returns-in-Some : goal.returns-in-Some
 returns-in-Some t c =

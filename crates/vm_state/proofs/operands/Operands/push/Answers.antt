@@ -1,6 +1,6 @@
-use Rattle.std.proofs.Common.{◌≡◌, ◌+◌, ◌<◌, ◌≤◌, length, reverse, ap, arith}
+use Rattle.std.proofs.Common.{reverse, ap, arith}
 use Rattle.std.proofs.lemmas.List.{length-reverse}
-use Rattle.vm_state.specs.Values.{width, depth}
+use Rattle.vm_state.specs.Values.{depth}
 use Rattle.vm_state.proofs.Depths.{width_some, length_depth}
 use Rattle.vm_state.proofs.operands.Operands.push.Goals as goal
 
