@@ -1,0 +1,3 @@
+pub mod Lends
+-- For proofs only.
+pub mod TreeCode
