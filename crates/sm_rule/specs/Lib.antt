@@ -1,0 +1,5 @@
+pub mod Edits
+pub mod Moves
+pub mod Perform
+pub mod Step
+pub mod Values
