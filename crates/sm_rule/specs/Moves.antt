@@ -173,7 +173,7 @@ parameter_begun s field other = move.Stuck
 abbrev pub stage_begun : Sight → Stage → Move
 stage_begun s (stage.Parameter field) = parameter_begun s field (slice_get s.locals s.child)
 stage_begun s stage.Superclass = move.Do (act.ConstructAbove s.class s.this (map Some (reverse s.operands)))
-stage_begun s (stage.Mixin trait) = move.Do (act.Construct trait s.this [])
+stage_begun s (stage.Mixin trait) = move.Do (act.Construct trait (Some s.this ∷ []))
 
 abbrev pub begun : Sight → Shape → Move
 begun s (ExprShape e) = expr_begun s e
@@ -185,9 +185,9 @@ begun s (StageShape stage) = stage_begun s stage
 -- ---- a node gets the value of a child
 
 abbrev pub branched : Value → Move → Move → Move
-branched (value.Bool true) yes no = yes
-branched (value.Bool false) yes no = no
-branched other yes no = move.Stuck
+branched (value.Bool true) one two = one
+branched (value.Bool false) one two = two
+branched other one two = move.Stuck
 
 abbrev pub if_received : ℕ → Value → Move
 if_received zero v = branched v (move.Turn 1) (move.Turn 2)
@@ -205,16 +205,11 @@ next_or count i next last = if nat_lt (i + 1) count then next else last
 abbrev pub all : Value → List Value → List Value
 all v operands = reverse (v ∷ operands)
 
+abbrev pub arguments : Value → List Value → List (Option Value)
+arguments v operands = map Some (all v operands)
+
 abbrev pub operand_or : ℕ → ℕ → Value → Move → Move
 operand_or count i v last = next_or count i (move.Keep (i + 1) v) last
-
-abbrev pub called : ℕ → ℕ → List Value → Move
-called class method [] = move.Stuck
-called class method (this ∷ args) = move.Do (act.Call class method this (map Some args))
-
-abbrev pub constructed : ℕ → List Value → Move
-constructed class [] = move.Stuck
-constructed class (this ∷ args) = move.Do (act.Construct class this (map Some args))
 
 abbrev pub written : ℕ → ℕ → ℕ → Value → List Value → Move
 written class field zero v operands = move.Keep 1 v
@@ -234,13 +229,13 @@ exchanged class field (suc (suc i)) new other = move.Stuck
 
 -- a text as it is shown: null is `null`
 abbrev pub shown : (List ℕ → Move) → Value → Move
-shown then (value.Text t) = then t
-shown then value.Null = then (codes "null")
-shown then other = move.Stuck
+shown use_text (value.Text t) = use_text t
+shown use_text value.Null = use_text (codes "null")
+shown use_text other = move.Stuck
 
 abbrev pub text_received : ℕ → (List ℕ → Move) → Value → Move
-text_received zero then v = move.Again None 1 (act.TextOf v)
-text_received (suc i) then v = shown then v
+text_received zero use_text v = move.Again None 1 (act.TextOf v)
+text_received (suc i) use_text v = shown use_text v
 
 abbrev pub thrown : Value → Move
 thrown (value.Ref r) = move.Raise (value.Ref r)
@@ -266,8 +261,8 @@ abbrev pub expr_received : Value → ℕ → Value → List Value → ExprForm �
 expr_received this i v operands (Expr-F.SetLocal local e) = move.Store local v value.Unit
 expr_received this i v operands (Expr-F.Get of class field) = move.Do (act.Read v class field)
 expr_received this i v operands (Expr-F.Put of class field new) = written class field i v operands
-expr_received this i v operands (Expr-F.Call of class method args) = operand_or (suc (length args)) i v (called class method (all v operands))
-expr_received this i v operands (Expr-F.New class args) = operand_or (length args) i v (constructed class (all v operands))
+expr_received this i v operands (Expr-F.Call of class method args) = operand_or (suc (length args)) i v (move.Do (act.Call class method (arguments v operands)))
+expr_received this i v operands (Expr-F.New class args) = operand_or (length args) i v (move.Do (act.Construct class (arguments v operands)))
 expr_received this i v operands (Expr-F.Prim op args) = operand_or (length args) i v (computed op (all v operands))
 expr_received this i v operands (Expr-F.Convert to of) = move.Do (act.Convert to v)
 expr_received this i v operands (Expr-F.Equal a b) = compared i v operands
@@ -281,14 +276,14 @@ expr_received this i v operands (Expr-F.Throw e) = thrown v
 expr_received this i v operands (Expr-F.Start e) = move.Do (act.Start v)
 expr_received this i v operands (Expr-F.Match of cases) = match_received i v cases
 expr_received this i v operands (Expr-F.LazyGet of class cell) = move.Do (act.ReadCell v class cell)
-expr_received this i v operands (Expr-F.SuperCall after name args) = operand_or (length args) i v (move.Do (act.CallSuper after name this (map Some (all v operands))))
+expr_received this i v operands (Expr-F.SuperCall after name args) = operand_or (length args) i v (move.Do (act.CallSuper after name this (arguments v operands)))
 expr_received this i v operands (Expr-F.Test of test) = move.Do (act.Test v test)
 expr_received this i v operands (Expr-F.Cas of class field old new) = exchanged class field i v operands
 expr_received this i v operands (Expr-F.NewLatch e) = move.Do (act.MakeLatch v)
 expr_received this i v operands (Expr-F.OwnedHere e) = move.Do (act.IsMine v)
 expr_received this i v operands (Expr-F.Await e) = move.Do (act.Await v)
 expr_received this i v operands (Expr-F.CountDown e) = move.Do (act.CountDown v)
-expr_received this i v operands (Expr-F.StaticCall class method args) = operand_or (length args) i v (move.Do (act.CallDirectly class method (map Some (all v operands))))
+expr_received this i v operands (Expr-F.StaticCall class method args) = operand_or (length args) i v (move.Do (act.CallDirectly class method (arguments v operands)))
 expr_received this i v operands (Expr-F.SetModule class e) = move.Do (act.SetModule class v)
 expr_received this i v operands other = move.Stuck
 

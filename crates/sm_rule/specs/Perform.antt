@@ -1,5 +1,5 @@
 -- What comes of an act, by the heap and the program.
-use Rattle.std.specs.Prelude.{ℕ, ℤ, ◌==◌, ◌||◌, Bool, true, false, if◌then◌else◌, nat_eq, bool_eq, List, [], ◌∷◌, codes, length, Option, Some, None, option_map, slice_get}
+use Rattle.std.specs.Prelude.{ℕ, ℤ, ◌==◌, ◌||◌, Bool, true, false, if◌then◌else◌, List, [], ◌∷◌, codes, length, Option, Some, None, option_map, slice_get}
 use Rattle.std.specs.Option.{option_and_then, option_or}
 use Rattle.sl_num.specs.Int.{signed32}
 use Rattle.ty_prog.specs.Find.{find, super_find}
@@ -62,12 +62,12 @@ has class [] = false
 has class (c ∷ linear) = (c == class) || has class linear
 
 -- whether an object is of a class or of one below it
-abbrev pub is_instance : Program → Heap → ℕ → ℕ → Bool
-is_instance p h class r = instance_of p class (slice_get h.objects r)
-
 abbrev pub instance_of : Program → ℕ → Option Object → Bool
 instance_of p class None = false
 instance_of p class (Some o) = has class (linear_of p.classes o.class)
+
+abbrev pub is_instance : Program → Heap → ℕ → ℕ → Bool
+is_instance p h class r = instance_of p class (slice_get h.objects r)
 
 abbrev pub class_name : Program → ℕ → Option (List ℕ)
 class_name p class = option_map (λ c. c.name) (slice_get p.classes class)
@@ -184,15 +184,20 @@ abbrev pub selected : Program → ℕ → Option Method → Option (ℕ × ℕ)
 selected p of None = None
 selected p of (Some m) = find p of m.name
 
+-- the first argument is the object of a call
+abbrev pub with_first : (Value → List (Option Value) → Answer) → List (Option Value) → Answer
+with_first f (Some this ∷ args) = f this args
+with_first f other = answer.Wrong
+
 -- a static method, or this very one on an object, the first argument (JVMS 6.5: invokestatic, invokespecial)
-abbrev pub on_first : ℕ → ℕ → List (Option Value) → Answer
-on_first class method (Some (value.Ref r) ∷ args) = enters (value.Ref r) args (Some (class, method))
-on_first class method (Some value.Null ∷ args) = on_null
-on_first class method other = answer.Wrong
+abbrev pub enters_on : ℕ → ℕ → Value → List (Option Value) → Answer
+enters_on class method (value.Ref r) args = enters (value.Ref r) args (Some (class, method))
+enters_on class method value.Null args = on_null
+enters_on class method other args = answer.Wrong
 
 abbrev pub directly : ℕ → ℕ → List (Option Value) → Option Method → Answer
 directly class method args None = answer.Wrong
-directly class method args (Some m) = if m.is_static then enters value.Unit args (Some (class, method)) else on_first class method args
+directly class method args (Some m) = if m.is_static then enters value.Unit args (Some (class, method)) else with_first (enters_on class method) args
 
 abbrev pub constructor_entry : ℕ → Value → List (Option Value) → Entry
 constructor_entry class this args = record { class = class; part = part.Constructor; this = this; args = args }
@@ -316,11 +321,12 @@ perform p h t (act.Exchange of class field old new) = of_object h of (λ r o. ex
 perform p h t (act.ReadCell of class cell) = of_object h of (λ r o. cell_read_at t class cell r o (cell_place p.classes o.class class cell))
 perform p h t (act.ReadModule class) = module_read t class (slice_get h.modules class)
 perform p h t (act.SetModule class of) = module_set class of (slice_get h.modules class)
-perform p h t (act.Call class method this args) = of_object h this (λ r o. enters (value.Ref r) args (selected p o.class (method_at p class method)))
+perform p h t (act.Call class method args) =
+    with_first (λ this rest. of_object h this (λ r o. enters (value.Ref r) rest (selected p o.class (method_at p class method)))) args
 perform p h t (act.CallSuper after name this args) = of_object h this (λ r o. enters (value.Ref r) args (super_find p o.class after name))
 perform p h t (act.CallDirectly class method args) = directly class method args (method_at p class method)
 perform p h t (act.Make class) = answer.Gives (edit.AddObject (made p.classes class None)) (value.Ref (length h.objects))
-perform p h t (act.Construct class this args) = answer.Enters edit.Nothing (constructor_entry class this args)
+perform p h t (act.Construct class args) = with_first (λ this rest. answer.Enters edit.Nothing (constructor_entry class this rest)) args
 perform p h t (act.ConstructAbove class this args) = constructs_above this args (superclass p class)
 perform p h t (act.Compare one other) = compared p h one other
 perform p h t (act.CallEquals one other) = equals_answer p h one other

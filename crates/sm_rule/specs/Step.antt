@@ -248,13 +248,13 @@ abbrev pub is_error : Program → Heap → Value → Bool
 is_error p h (value.Ref r) = is_instance p h 12 r
 is_error p h other = false
 
-abbrev pub is_replaced : Program → Heap → Context → Value → Part → Bool
-is_replaced p h c x part.Constructor = replaced_in (kind_of p c.class) (is_error p h x)
-is_replaced p h c x other = false
-
 abbrev pub replaced_in : Kind → Bool → Bool
 replaced_in kind.Object false = true
 replaced_in other error = false
+
+abbrev pub is_replaced : Program → Heap → Context → Value → Part → Bool
+is_replaced p h c x part.Constructor = replaced_in (kind_of p c.class) (is_error p h x)
+is_replaced p h c x other = false
 
 abbrev pub text_only : Value → Option (List ℕ)
 text_only (value.Text t) = Some t

@@ -1,5 +1,5 @@
 -- What is told of values alone: identity, equality of numbers and texts, operators, texts (SLS 6.12, 12.1, 12.2).
-use Rattle.std.specs.Prelude.{◌≡◌, ℕ, ℤ, pos, Bool, true, false, not, ◌&&◌, ◌||◌, ◌<◌, if◌then◌else◌, nat_eq, nat_lt, bool_eq, List, [], ◌∷◌, ◌++◌, codes, Option, Some, None, option_map, int_lt, int_le}
+use Rattle.std.specs.Prelude.{ℕ, ◌+◌, ℤ, pos, Bool, true, false, not, ◌&&◌, ◌||◌, if◌then◌else◌, nat_eq, nat_lt, List, [], ◌∷◌, ◌++◌, codes, Option, Some, None, option_map, int_lt, int_le}
 use Rattle.std.specs.Ordering.{int_eq}
 use Rattle.std.specs.Str.{bytes_eq}
 use Rattle.std.specs.Fmt.{signed_decimal}
@@ -16,10 +16,15 @@ use Rattle.sm_rule.specs.declared.act.Act.TheVariants as act
 use Rattle.sm_rule.specs.declared.moves.Move.{Move}
 use Rattle.sm_rule.specs.declared.moves.Move.TheVariants as move
 
+-- two Booleans that are equal
+abbrev pub alike : Bool → Bool → Bool
+alike true b = b
+alike false b = not b
+
 -- one and the same: objects and latches by identity, other values by what they are
 abbrev pub same : Value → Value → Bool
 same value.Unit value.Unit = true
-same (value.Bool a) (value.Bool b) = bool_eq a b
+same (value.Bool a) (value.Bool b) = alike a b
 same (value.Int a) (value.Int b) = int_eq a b
 same (value.Long a) (value.Long b) = int_eq a b
 same (value.Text a) (value.Text b) = bytes_eq a b
@@ -105,7 +110,7 @@ long_shifted other a b = move.Stuck
 abbrev pub bool_computed : PrimOp → Bool → Bool → Move
 bool_computed op.And a b = truth (a && b)
 bool_computed op.Or a b = truth (a || b)
-bool_computed op.Xor a b = truth (not (bool_eq a b))
+bool_computed op.Xor a b = truth (not (alike a b))
 bool_computed other a b = move.Stuck
 
 -- two texts joined, of at most 1,000,000 UTF-16 units

@@ -18,13 +18,13 @@ pub enum Act {
     ReadCell { of: Value, class: u32, cell: u32 },
     ReadModule(u32),
     SetModule { class: u32, of: Value },
-    // Calls: of the method that the object's class has of this one's name; of the one that `super` means; of this very
+    // Calls, whose object is the first argument but where it is told: of the method that the object's class has of this one's name; of the one that `super` means; of this very
     // one; of a constructor, and of that of the superclass (SLS 5.1, 6.5, 6.6).
-    Call { class: u32, method: u32, this: Value, args: Args },
+    Call { class: u32, method: u32, args: Args },
     CallSuper { after: u32, name: Name, this: Value, args: Args },
     CallDirectly { class: u32, method: u32, args: Args },
     Make(u32),
-    Construct { class: u32, this: Value, args: Args },
+    Construct { class: u32, args: Args },
     ConstructAbove { class: u32, this: Value, args: Args },
     // Values: `==`, `equals`, the text of a value, `toString`, its class's name, conversions and tests (SLS 6.12, 12.1).
     Compare { one: Value, other: Value },
