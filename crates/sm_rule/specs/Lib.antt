@@ -1,4 +1,5 @@
 pub mod Edits
+pub mod Machine
 pub mod Moves
 pub mod Perform
 pub mod Step

@@ -123,16 +123,19 @@ concatenated value.Null b = null_pointer
 concatenated (value.Text a) value.Null = null_pointer
 concatenated _ _ = move.Stuck
 
+abbrev pub values_computed : PrimOp → Value → Value → Move
+values_computed o (value.Int a) (value.Int b) = int_computed o a b
+values_computed o (value.Long a) (value.Long b) = long_computed o a b
+values_computed o (value.Long a) (value.Int b) = long_shifted o a b
+values_computed o (value.Bool a) (value.Bool b) = bool_computed o a b
+values_computed o _ _ = move.Stuck
+
 -- an operator on two operands; references are compared, and `equals` is called
 abbrev pub two_computed : PrimOp → Value → Value → Move
 two_computed op.Same a b = truth (same a b)
 two_computed op.Equals a b = move.Do (act.CallEquals a b)
 two_computed op.Concat a b = concatenated a b
-two_computed o (value.Int a) (value.Int b) = int_computed o a b
-two_computed o (value.Long a) (value.Long b) = long_computed o a b
-two_computed o (value.Long a) (value.Int b) = long_shifted o a b
-two_computed o (value.Bool a) (value.Bool b) = bool_computed o a b
-two_computed _ _ _ = move.Stuck
+two_computed o a b = values_computed o a b
 
 abbrev pub is_empty : List ℕ → Bool
 is_empty [] = true
@@ -141,7 +144,7 @@ is_empty other = false
 -- an operator on one operand
 abbrev pub one_computed : PrimOp → Value → Move
 one_computed op.Not (value.Bool a) = truth (not a)
-one_computed op.Length (value.Text t) = move.End (value.Int (int num.Add (pos (units t)) (pos 0)))
+one_computed op.Length (value.Text t) = move.End (value.Int (pos (units t)))
 one_computed op.Length value.Null = null_pointer
 one_computed op.IsEmpty (value.Text t) = truth (is_empty t)
 one_computed op.IsEmpty value.Null = null_pointer
@@ -149,8 +152,8 @@ one_computed op.ToString a = move.Do (act.CallToString a)
 one_computed op.ClassName a = move.Do (act.NameClass a)
 one_computed _ _ = move.Stuck
 
--- an operator on its operands, in order
-abbrev pub computed : PrimOp → List Value → Move
-computed o (a ∷ []) = one_computed o a
-computed o (a ∷ b ∷ []) = two_computed o a b
-computed o _ = move.Stuck
+-- an operator on its last operand and those before it, the latest first
+abbrev pub computed : PrimOp → Value → List Value → Move
+computed o v [] = one_computed o v
+computed o v (a ∷ []) = two_computed o a v
+computed o v other = move.Stuck

@@ -41,7 +41,7 @@ fn try_kept(handler: &Option<Catch>, child: usize) -> usize
     }
 }
 
-fn expr_kept(e: &Expr, child: usize) -> usize
+pub(crate) fn expr_kept(e: &Expr, child: usize) -> usize
     requires { child < 2 ^ 32 }
     ensures { result ≡ kept (shape (ExprTree e.now)) child }
 {
@@ -73,7 +73,7 @@ fn expr_kept(e: &Expr, child: usize) -> usize
 }
 
 // How many children of a constructor stand before the call of the superclass constructor.
-fn before_super(class: &Class) -> u128
+pub(crate) fn before_super(class: &Class) -> u128
     ensures { result ≡ length class.now.params + length class.now.super_args }
 {
     class.params.len() as u128 + class.super_args.len() as u128
@@ -105,7 +105,7 @@ fn super_kept(class: &Class, child: usize) -> usize
 }
 
 /// How many operands a node keeps while its child with this number is evaluated.
-pub(crate) fn kept(node: Node<'_>, child: u32) -> usize
+pub fn kept(node: Node<'_>, child: u32) -> usize
     ensures { result ≡ kept (shape (tree_of node.entry)) child }
 {
     match node {

@@ -1,21 +1,19 @@
 //! What is told of values alone.
 
-ghost use Rattle.std.specs.Prelude.{◌≡◌, ◌++◌, IfOk, IsTrue};
-ghost use Rattle.std.specs.Char.{is_ascii};
-ghost use Rattle.std.specs.List.{list_all};
+ghost use Rattle.std.specs.Prelude.{◌≡◌};
 ghost use Rattle.sm_rule.specs.Values.{alike, same, equal};
 
-use sl_base::Name;
 use sm_state::Value;
 
-fn alike(a: bool, b: bool) -> bool
+/// Whether two Booleans are equal.
+pub(crate) fn alike(a: bool, b: bool) -> bool
     ensures { result ≡ alike a b }
 {
     if a { b } else { !b }
 }
 
 /// Whether two values are one and the same.
-pub(crate) fn same(a: &Value, b: &Value) -> bool
+pub fn same(a: &Value, b: &Value) -> bool
     ensures { result ≡ same a.now b.now }
 {
     match (a, b) {
@@ -34,7 +32,7 @@ pub(crate) fn same(a: &Value, b: &Value) -> bool
 }
 
 /// `==` of a value that is no object.
-pub(crate) fn equal(a: &Value, b: &Value) -> bool
+pub fn equal(a: &Value, b: &Value) -> bool
     ensures { result ≡ equal a.now b.now }
 {
     match (a, b) {

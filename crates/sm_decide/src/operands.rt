@@ -22,8 +22,9 @@ pub(crate) fn arguments(
     let mut left = count;
     while left > 0 {
         left -= 1;
-        if let Some(v) = operands.get(left) {
-            made.push(Some(v.copy(alloc)?))?;
+        match operands.get(left) {
+            Some(v) => made.push(Some(v.copy(alloc)?))?,
+            None => {}
         }
     }
     made.push(Some(last.copy(alloc)?))?;
@@ -31,7 +32,7 @@ pub(crate) fn arguments(
 }
 
 /// The number of the next child, where there is room for it.
-pub(crate) fn next(child: u32) -> Result<u32, NoMemory>
+pub fn next(child: u32) -> Result<u32, NoMemory>
     ensures { IfOk result (λ n. n ≡ child + 1) }
 {
     match child.checked_add(1) {
