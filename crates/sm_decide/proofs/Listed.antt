@@ -1,11 +1,12 @@
 -- Operands as arguments, from the earliest on.
 use Rattle.std.proofs.Common.{◌≡◌, ℕ, zero, suc, ◌+◌, List, [], ◌∷◌, ◌++◌, ◌-◌, ◌<◌, take, reverse, map, Option, Some, None, refl, sym, ap, ◌∙◌, arith}
-use Rattle.std.specs.Prelude.{slice_get}
+use Rattle.std.specs.Prelude.{slice_get, option_to_list, nat_lt, if◌then◌else◌}
 use Rattle.std.proofs.lemmas.Grind.{reverse_onto}
-use Rattle.std.proofs.lemmas.List.{reverse-append, append-assoc}
+use Rattle.std.proofs.lemmas.List.{reverse-append, append_assoc}
 use Rattle.sm_state.specs.declared.value.Value.{Value}
 use Rattle.sm_rule.specs.Moves.{arguments}
-use Rattle.sm_rule.specs.Values.{computed}
+use Rattle.sm_decide.specs.Forms.{pushed}
+use Rattle.sm_rule.specs.Values.{computed, units}
 use Rattle.sm_rule.specs.declared.moves.Move.TheVariants as move
 use Rattle.ty_prog.specs.declared.prim_op.PrimOp.{PrimOp}
 
@@ -33,7 +34,7 @@ arguments_none v operands k is = ap (arguments v) (take_none operands k is)
 pub arguments_step : (v : Value) (operands : List Value) (made whole : List (Option Value)) (left : ℕ) (x : Value) → 0 < left → slice_get operands (left - 1) ≡ Some x → made ++ arguments v (take left operands) ≡ whole → (made ++ Some x ∷ []) ++ arguments v (take (left - 1) operands) ≡ whole
 arguments_step v operands made whole left x some is was =
     let count : suc (left - 1) ≡ left = omega arith in
-    append-assoc made (Some x ∷ []) (arguments v (take (left - 1) operands))
+    append_assoc made (Some x ∷ []) (arguments v (take (left - 1) operands))
     ∙ ap (λ l. made ++ l) (sym (arguments_more v operands (left - 1) x is))
     ∙ ap (λ n. made ++ arguments v (take n operands)) count
     ∙ was
@@ -53,7 +54,7 @@ some_reverse operands k x is =
 pub reverse_step : (operands : List Value) (made whole : List (Option Value)) (left : ℕ) (x : Value) → 0 < left → slice_get operands (left - 1) ≡ Some x → made ++ map Some (reverse (take left operands)) ≡ whole → (made ++ Some x ∷ []) ++ map Some (reverse (take (left - 1) operands)) ≡ whole
 reverse_step operands made whole left x some is was =
     let count : suc (left - 1) ≡ left = omega arith in
-    append-assoc made (Some x ∷ []) (map Some (reverse (take (left - 1) operands)))
+    append_assoc made (Some x ∷ []) (map Some (reverse (take (left - 1) operands)))
     ∙ ap (λ l. made ++ l) (sym (some_reverse operands (left - 1) x is))
     ∙ ap (λ n. made ++ map Some (reverse (take n operands))) count
     ∙ was
@@ -80,3 +81,33 @@ few_computed o v (a ∷ []) zero lt is = absurd (omega arith)
 few_computed o v (a ∷ []) (suc zero) lt is = refl
 few_computed o v (a ∷ []) (suc (suc k)) lt is = refl
 few_computed o v (a ∷ c ∷ operands) child lt is = absurd (cc)
+
+-- the same where an operand may lack
+arguments_pushed_in : (v : Value) (operands : List Value) (made whole : List (Option Value)) (left : ℕ) (o : Option Value) → 0 < left → slice_get operands (left - 1) ≡ o → made ++ arguments v (take left operands) ≡ whole → pushed made o ++ arguments v (take (left - 1) operands) ≡ whole
+arguments_pushed_in v operands made whole left None some is was = arguments_skip v operands made whole left some is was
+arguments_pushed_in v operands made whole left (Some x) some is was = arguments_step v operands made whole left x some is was
+
+pub arguments_pushed : (v : Value) (operands : List Value) (made whole : List (Option Value)) (left : ℕ) → 0 < left → made ++ arguments v (take left operands) ≡ whole → pushed made (slice_get operands (left - 1)) ++ arguments v (take (left - 1) operands) ≡ whole
+arguments_pushed v operands made whole left some was = arguments_pushed_in v operands made whole left (slice_get operands (left - 1)) some refl was
+
+reverse_pushed_in : (operands : List Value) (made whole : List (Option Value)) (left : ℕ) (o : Option Value) → 0 < left → slice_get operands (left - 1) ≡ o → made ++ map Some (reverse (take left operands)) ≡ whole → pushed made o ++ map Some (reverse (take (left - 1) operands)) ≡ whole
+reverse_pushed_in operands made whole left None some is was = reverse_skip operands made whole left some is was
+reverse_pushed_in operands made whole left (Some x) some is was = reverse_step operands made whole left x some is was
+
+pub reverse_pushed : (operands : List Value) (made whole : List (Option Value)) (left : ℕ) → 0 < left → made ++ map Some (reverse (take left operands)) ≡ whole → pushed made (slice_get operands (left - 1)) ++ map Some (reverse (take (left - 1) operands)) ≡ whole
+reverse_pushed operands made whole left some was = reverse_pushed_in operands made whole left (slice_get operands (left - 1)) some refl was
+
+-- one character more
+width_push : (w n m : ℕ) → w + (n + m) ≡ (w + n) + m
+width_push w n m = omega arith
+
+pub units_push : (cs : List ℕ) (c : ℕ) → units (cs ++ c ∷ []) ≡ units cs + (if nat_lt c 65536 then 1 else 2)
+units_push [] c = omega arith
+units_push (x ∷ cs) c =
+    ap (λ n. (if nat_lt x 65536 then 1 else 2) + n) (units_push cs c)
+    ∙ width_push (if nat_lt x 65536 then 1 else 2) (units cs) (if nat_lt c 65536 then 1 else 2)
+
+-- the one operand before the last, if there is one
+pub one_taken : (operands : List Value) → take 1 operands ≡ option_to_list (slice_get operands 0)
+one_taken [] = refl
+one_taken (a ∷ operands) = refl

@@ -1,5 +1,5 @@
 -- For proofs only: what small functions give.
-use Rattle.std.specs.Prelude.{ℕ, Bool, true, false, List, codes, Option, Some, None}
+use Rattle.std.specs.Prelude.{ℕ, Bool, true, false, List, [], ◌∷◌, ◌++◌, codes, Option, Some, None}
 use Rattle.ty_prog.specs.Shape.{One}
 use Rattle.sm_state.specs.declared.value.Value.{Value}
 use Rattle.sm_state.specs.declared.value.Value.TheVariants as value
@@ -14,3 +14,8 @@ shown_text other = None
 abbrev pub one_if : Bool → Option One
 one_if true = Some tt
 one_if false = None
+
+-- a list with one item more, if there is one
+abbrev pub pushed : List (Option Value) → Option Value → List (Option Value)
+pushed made None = made
+pushed made (Some v) = made ++ Some v ∷ []

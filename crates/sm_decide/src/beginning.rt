@@ -12,9 +12,11 @@ ghost use Rattle.sm_rule.specs.declared.moves.Move.TheVariants as move;
 ghost use Rattle.sm_rule.specs.declared.act.Act.TheVariants as act;
 
 use crate::begin_pattern::begin_pattern;
+use crate::operands::push_some;
 use sl_base::{Name, NoMemory};
 use sm_rule::{Act, Args, Move};
 use sm_state::{Context, Level, Sequence, Stack, Value};
+use sqlite_items::Boxed;
 use std::alloc::Global;
 use ty_prog::{Expr, Node, PrimOp, Stage};
 
@@ -57,6 +59,15 @@ fn making(class: u32, args: &[Expr]) -> Move
     }
 }
 
+fn printing(alloc: Global, e: &Option<Boxed<Expr>>) -> Result<Move, NoMemory>
+    ensures { IfOk result (λ m. m ≡ printing (option_map to_one e.now)) }
+{
+    match e {
+        None => Ok(Move::Do(Act::Print(Name::from_text(alloc, "")?))),
+        Some(_) => Ok(Move::Turn(0)),
+    }
+}
+
 // A call by `super` without arguments.
 fn super_alone(alloc: Global, this: &Value, after: u32, name: &Name) -> Result<Move, NoMemory>
     ensures { IfOk result (λ m. m ≡ move.Do (act.CallSuper after name.now this.now [])) }
@@ -84,7 +95,7 @@ fn begin_expr(alloc: Global, c: &Context<'_>, e: &Expr) -> Result<Move, NoMemory
         Expr::Block(es) => Ok(first_or(es.as_slice(), Move::End(Value::Unit))),
         Expr::Prim { op, args } => Ok(first_or(args.as_slice(), lone(*op))),
         Expr::New { class, args } => Ok(making(*class, args.as_slice())),
-        Expr::Println(None) => Ok(Move::Do(Act::Print(Name::from_text(alloc, "")?))),
+        Expr::Println(e) => printing(alloc, e),
         Expr::SuperCall { after, name, args } => {
             let alone = super_alone(alloc, &c.this, *after, name)?;
             Ok(first_or(args.as_slice(), alone))
@@ -101,7 +112,8 @@ fn begin_expr(alloc: Global, c: &Context<'_>, e: &Expr) -> Result<Move, NoMemory
             });
             Ok(first_or(args.as_slice(), alone))
         }
-        Expr::ObjectGet(class) | Expr::ModuleGet(class) => Ok(Move::Do(Act::ReadModule(*class))),
+        Expr::ObjectGet(class) => Ok(Move::Do(Act::ReadModule(*class))),
+        Expr::ModuleGet(class) => Ok(Move::Do(Act::ReadModule(*class))),
         _ => Ok(Move::Turn(0)),
     }
 }
@@ -157,10 +169,7 @@ fn all_operands(alloc: Global, operands: &Stack<Value>) -> Result<Args, NoMemory
     let mut left = operands.len();
     while left > 0 {
         left -= 1;
-        match operands.get(left) {
-            Some(v) => made.push(Some(v.copy(alloc)?))?,
-            None => {}
-        }
+        push_some(alloc, &mut made, operands.get(left))?;
     }
     Ok(made)
 }

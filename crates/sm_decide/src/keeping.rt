@@ -41,7 +41,7 @@ fn try_kept(handler: &Option<Catch>, child: usize) -> usize
     }
 }
 
-pub(crate) fn expr_kept(e: &Expr, child: usize) -> usize
+fn expr_kept(e: &Expr, child: usize) -> usize
     requires { child < 2 ^ 32 }
     ensures { result ≡ kept (shape (ExprTree e.now)) child }
 {

@@ -1,6 +1,8 @@
 //! Operands as arguments.
 
-ghost use Rattle.std.specs.Prelude.{◌≡◌, ◌+◌, nat_lt, take, IfOk};
+ghost use Rattle.std.specs.Prelude.{◌≡◌, ◌+◌, nat_lt, take, IfOk, OnOk};
+ghost use Rattle.std.specs.Option.{option_copied};
+ghost use Rattle.sm_decide.specs.Forms.{pushed};
 ghost use Rattle.sm_rule.specs.Moves.{arguments};
 ghost use Rattle.sm_rule.specs.declared.moves.Move.TheVariants as move;
 
@@ -8,6 +10,19 @@ use sl_base::NoMemory;
 use sm_rule::{Args, Move};
 use sm_state::{Sequence, Stack, Value};
 use std::alloc::Global;
+
+/// One argument more, if there is one.
+pub(crate) fn push_some(alloc: Global, made: &mut Args, v: Option<&Value>) -> Result<(), NoMemory>
+    ensures { OnOk result (made.new ≡ pushed made.old (option_copied v.entry)) }
+{
+    match v {
+        Some(v) => {
+            made.push(Some(v.copy(alloc)?))?;
+            Ok(())
+        }
+        None => Ok(()),
+    }
+}
 
 /// So many operands and the last one, in order.
 pub(crate) fn arguments(
@@ -22,10 +37,7 @@ pub(crate) fn arguments(
     let mut left = count;
     while left > 0 {
         left -= 1;
-        match operands.get(left) {
-            Some(v) => made.push(Some(v.copy(alloc)?))?,
-            None => {}
-        }
+        push_some(alloc, &mut made, operands.get(left))?;
     }
     made.push(Some(last.copy(alloc)?))?;
     Ok(made)

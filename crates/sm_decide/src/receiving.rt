@@ -1,18 +1,19 @@
 //! The move of a node that gets the value of a child.
 
-ghost use Rattle.std.specs.Prelude.{◌≡◌, ◌+◌, suc, take, map, IfOk, Some, None, option_map};
+ghost use Rattle.std.specs.Prelude.{◌≡◌, ◌+◌, ◌<◌, suc, take, map, length, IfOk, Some, None, option_map};
 ghost use Rattle.ty_prog.specs.Node.{tree_of};
 ghost use Rattle.ty_prog.specs.Shape.{shape, handler_form, to_one};
 ghost use Rattle.ty_prog.specs.Tree.{ExprTree};
 ghost use Rattle.sm_rule.specs.Values.{computed};
 ghost use Rattle.sm_decide.specs.Forms.{shown_text, one_if};
-ghost use Rattle.sm_rule.specs.Moves.{kept, try_kept, handler_len, if_received, while_received, written, compared, exchanged, thrown, unshelved, try_received, match_received, text_received, received, arguments, next_or, operand_or, case_received, constructor_received, publishes, sets_none};
+ghost use Rattle.ty_prog.specs.declared.catch.Catch.TheOpen.{Expr-F};
+ghost use Rattle.sm_rule.specs.Moves.{kept, expr_kept, try_kept, handler_len, if_received, while_received, written, compared, exchanged, thrown, unshelved, try_received, match_received, text_received, received, arguments, next_or, operand_or, case_received, constructor_received, publishes, sets_none};
 ghost use Rattle.sm_rule.specs.declared.moves.Move.TheVariants as move;
 ghost use Rattle.sm_rule.specs.declared.act.Act.TheVariants as act;
 ghost use Rattle.sm_state.specs.declared.value.Value.TheVariants as value;
 
 use crate::computing::{compute, null_pointer};
-use crate::keeping::{before_super, expr_kept, handler_len, is_super_arg};
+use crate::keeping::{before_super, handler_len, is_super_arg};
 use crate::operands::{arguments, has_next, keep, next};
 use crate::receive_pattern::receive_pattern;
 use crate::texts::plain;
@@ -20,8 +21,15 @@ use sl_base::{Name, NoMemory};
 use sm_rule::{Act, Move};
 use sm_state::{Stack, Value};
 use std::alloc::Global;
-use sqlite_items::Boxed;
-use ty_prog::{Case, Catch, Class, Expr, Kind, Node, PrimOp};
+use sqlite_items::{Boxed, Items};
+use ty_prog::{Case, Catch, Class, Expr, Kind, Node, PrimOp, Tested, Ty};
+
+// How many expressions there are.
+fn count(args: &Items<Expr>) -> usize
+    ensures { result ≡ length (map to_one args.now) }
+{
+    args.len()
+}
 
 fn receive_if(alloc: Global, child: u32, v: &Value) -> Result<Move, NoMemory>
     ensures { IfOk result (λ m. m ≡ if_received child v.now) }
@@ -36,23 +44,23 @@ fn receive_if(alloc: Global, child: u32, v: &Value) -> Result<Move, NoMemory>
     }
 }
 
-fn receive_while(child: u32, v: &Value) -> Move
-    ensures { result ≡ while_received child v.now }
+fn receive_while(child: u32, v: &Value) -> Result<Move, NoMemory>
+    ensures { IfOk result (λ m. m ≡ while_received child v.now) }
 {
     if child > 0 {
-        return Move::Turn(0);
+        return Ok(Move::Turn(0));
     }
     match v {
-        Value::Bool(true) => Move::Turn(1),
-        Value::Bool(false) => Move::End(Value::Unit),
-        _ => Move::Stuck,
+        Value::Bool(true) => Ok(Move::Turn(1)),
+        Value::Bool(false) => Ok(Move::End(Value::Unit)),
+        _ => Ok(Move::Stuck),
     }
 }
 
-fn receive_block(alloc: Global, count: usize, child: u32, v: &Value) -> Result<Move, NoMemory>
-    ensures { IfOk result (λ m. m ≡ next_or count child (move.Turn (child + 1)) (move.End v.now)) }
+fn receive_block(alloc: Global, es: &Items<Expr>, child: u32, v: &Value) -> Result<Move, NoMemory>
+    ensures { IfOk result (λ m. m ≡ next_or (length (map to_one es.now)) child (move.Turn (child + 1)) (move.End v.now)) }
 {
-    if has_next(count, child) {
+    if has_next(count(es), child) {
         Ok(Move::Turn(next(child)?))
     } else {
         Ok(Move::End(v.copy(alloc)?))
@@ -133,14 +141,14 @@ fn receive_call(
     alloc: Global,
     class: u32,
     method: u32,
-    count: usize,
+    args: &Items<Expr>,
     child: u32,
     v: &Value,
     operands: &Stack<Value>,
 ) -> Result<Move, NoMemory>
-    ensures { IfOk result (λ m. m ≡ operand_or (suc count) child v.now (move.Do (act.Call class method (arguments v.now (take child operands.now))))) }
+    ensures { IfOk result (λ m. m ≡ operand_or (suc (length (map to_one args.now))) child v.now (move.Do (act.Call class method (arguments v.now (take child operands.now))))) }
 {
-    if (child as usize) < count {
+    if (child as usize) < count(args) {
         return keep(alloc, child, v);
     }
     Ok(Move::Do(Act::Call {
@@ -153,20 +161,19 @@ fn receive_call(
 fn receive_new(
     alloc: Global,
     class: u32,
-    count: usize,
-    own: usize,
+    args: &Items<Expr>,
     child: u32,
     v: &Value,
     operands: &Stack<Value>,
 ) -> Result<Move, NoMemory>
-    ensures { IfOk result (λ m. m ≡ operand_or count child v.now (move.Do (act.Construct class (arguments v.now (take own operands.now))))) }
+    ensures { IfOk result (λ m. m ≡ operand_or (length (map to_one args.now)) child v.now (move.Do (act.Construct class (arguments v.now (take (expr_kept (Expr-F.New class (map to_one args.now)) child) operands.now))))) }
 {
-    if has_next(count, child) {
+    if has_next(count(args), child) {
         return keep(alloc, child, v);
     }
     Ok(Move::Do(Act::Construct {
         class,
-        args: arguments(alloc, operands, own, v)?,
+        args: arguments(alloc, operands, new_kept(class, args, child), v)?,
     }))
 }
 
@@ -175,14 +182,14 @@ fn receive_super(
     this: &Value,
     after: u32,
     name: &Name,
-    count: usize,
+    args: &Items<Expr>,
     child: u32,
     v: &Value,
     operands: &Stack<Value>,
 ) -> Result<Move, NoMemory>
-    ensures { IfOk result (λ m. m ≡ operand_or count child v.now (move.Do (act.CallSuper after name.now this.now (arguments v.now (take child operands.now))))) }
+    ensures { IfOk result (λ m. m ≡ operand_or (length (map to_one args.now)) child v.now (move.Do (act.CallSuper after name.now this.now (arguments v.now (take child operands.now))))) }
 {
-    if has_next(count, child) {
+    if has_next(count(args), child) {
         return keep(alloc, child, v);
     }
     Ok(Move::Do(Act::CallSuper {
@@ -197,14 +204,14 @@ fn receive_static(
     alloc: Global,
     class: u32,
     method: u32,
-    count: usize,
+    args: &Items<Expr>,
     child: u32,
     v: &Value,
     operands: &Stack<Value>,
 ) -> Result<Move, NoMemory>
-    ensures { IfOk result (λ m. m ≡ operand_or count child v.now (move.Do (act.CallDirectly class method (arguments v.now (take child operands.now))))) }
+    ensures { IfOk result (λ m. m ≡ operand_or (length (map to_one args.now)) child v.now (move.Do (act.CallDirectly class method (arguments v.now (take child operands.now))))) }
 {
-    if has_next(count, child) {
+    if has_next(count(args), child) {
         return keep(alloc, child, v);
     }
     Ok(Move::Do(Act::CallDirectly {
@@ -214,27 +221,65 @@ fn receive_static(
     }))
 }
 
-#[tactic(auto, using(crate::proofs::Listed::many_computed, crate::proofs::Listed::few_computed))]
-fn receive_prim(
+// An operator on its last operand and the one before it, if there is one.
+fn compute_two(
     alloc: Global,
     op: PrimOp,
-    count: usize,
+    v: &Value,
+    operands: &Stack<Value>,
+) -> Result<Move, NoMemory>
+    ensures { IfOk result (λ m. m ≡ computed op v.now (take 1 operands.now)) }
+{
+    compute(alloc, op, operands.get(0), v)
+}
+
+// An operator on its last operand and more than one before it.
+fn compute_many(
+    alloc: Global,
+    op: PrimOp,
     child: u32,
     v: &Value,
     operands: &Stack<Value>,
 ) -> Result<Move, NoMemory>
-    ensures { IfOk result (λ m. m ≡ operand_or count child v.now (computed op v.now (take child operands.now))) }
+    requires { 1 < child }
+    ensures { IfOk result (λ m. m ≡ computed op v.now (take child operands.now)) }
 {
-    if has_next(count, child) {
+    match operands.get(1) {
+        Some(_) => Ok(Move::Stuck),
+        None => compute_two(alloc, op, v, operands),
+    }
+}
+
+fn compute_all(
+    alloc: Global,
+    op: PrimOp,
+    child: u32,
+    v: &Value,
+    operands: &Stack<Value>,
+) -> Result<Move, NoMemory>
+    ensures { IfOk result (λ m. m ≡ computed op v.now (take child operands.now)) }
+{
+    match child {
+        0 => compute(alloc, op, None, v),
+        1 => compute_two(alloc, op, v, operands),
+        _ => compute_many(alloc, op, child, v, operands),
+    }
+}
+
+fn receive_prim(
+    alloc: Global,
+    op: PrimOp,
+    args: &Items<Expr>,
+    child: u32,
+    v: &Value,
+    operands: &Stack<Value>,
+) -> Result<Move, NoMemory>
+    ensures { IfOk result (λ m. m ≡ operand_or (length (map to_one args.now)) child v.now (computed op v.now (take child operands.now))) }
+{
+    if has_next(count(args), child) {
         return keep(alloc, child, v);
     }
-    if child == 0 {
-        return compute(alloc, op, None, v);
-    }
-    if child > 1 && operands.get(1).is_some() {
-        return Ok(Move::Stuck);
-    }
-    compute(alloc, op, operands.top(), v)
+    compute_all(alloc, op, child, v, operands)
 }
 
 // The text of what is shown: null is `null`.
@@ -282,13 +327,13 @@ fn receive_println(alloc: Global, child: u32, v: &Value) -> Result<Move, NoMemor
     }
 }
 
-fn receive_throw(v: &Value) -> Move
-    ensures { result ≡ thrown v.now }
+fn receive_throw(v: &Value) -> Result<Move, NoMemory>
+    ensures { IfOk result (λ m. m ≡ thrown v.now) }
 {
     match v {
-        Value::Ref(at) => Move::Raise(Value::Ref(*at)),
-        Value::Null => null_pointer(),
-        _ => Move::Stuck,
+        Value::Ref(at) => Ok(Move::Raise(Value::Ref(*at))),
+        Value::Null => Ok(null_pointer()),
+        _ => Ok(Move::Stuck),
     }
 }
 
@@ -339,7 +384,7 @@ fn receive_try(
     })
 }
 
-fn receive_match(alloc: Global, child: u32, v: &Value, cases: &[Case]) -> Result<Move, NoMemory>
+fn receive_match(alloc: Global, child: u32, v: &Value, cases: &Items<Case>) -> Result<Move, NoMemory>
     ensures { IfOk result (λ m. m ≡ match_received child v.now (map to_one cases.now)) }
 {
     if child > 0 {
@@ -381,6 +426,61 @@ fn store(alloc: Global, local: u32, v: &Value) -> Result<Move, NoMemory>
     })
 }
 
+fn convert(alloc: Global, to: Ty, v: &Value) -> Result<Move, NoMemory>
+    ensures { IfOk result (λ m. m ≡ move.Do (act.Convert to v.now)) }
+{
+    Ok(Move::Do(Act::Convert { to, of: v.copy(alloc)? }))
+}
+
+fn start(alloc: Global, v: &Value) -> Result<Move, NoMemory>
+    ensures { IfOk result (λ m. m ≡ move.Do (act.Start v.now)) }
+{
+    Ok(Move::Do(Act::Start(v.copy(alloc)?)))
+}
+
+fn test_value(alloc: Global, v: &Value, test: Tested) -> Result<Move, NoMemory>
+    ensures { IfOk result (λ m. m ≡ move.Do (act.Test v.now test)) }
+{
+    Ok(Move::Do(Act::Test { of: v.copy(alloc)?, test }))
+}
+
+fn make_latch(alloc: Global, v: &Value) -> Result<Move, NoMemory>
+    ensures { IfOk result (λ m. m ≡ move.Do (act.MakeLatch v.now)) }
+{
+    Ok(Move::Do(Act::MakeLatch(v.copy(alloc)?)))
+}
+
+fn is_mine(alloc: Global, v: &Value) -> Result<Move, NoMemory>
+    ensures { IfOk result (λ m. m ≡ move.Do (act.IsMine v.now)) }
+{
+    Ok(Move::Do(Act::IsMine(v.copy(alloc)?)))
+}
+
+fn await_latch(alloc: Global, v: &Value) -> Result<Move, NoMemory>
+    ensures { IfOk result (λ m. m ≡ move.Do (act.Await v.now)) }
+{
+    Ok(Move::Do(Act::Await(v.copy(alloc)?)))
+}
+
+fn count_down(alloc: Global, v: &Value) -> Result<Move, NoMemory>
+    ensures { IfOk result (λ m. m ≡ move.Do (act.CountDown v.now)) }
+{
+    Ok(Move::Do(Act::CountDown(v.copy(alloc)?)))
+}
+
+fn set_module(alloc: Global, class: u32, v: &Value) -> Result<Move, NoMemory>
+    ensures { IfOk result (λ m. m ≡ move.Do (act.SetModule class v.now)) }
+{
+    Ok(Move::Do(Act::SetModule { class, of: v.copy(alloc)? }))
+}
+
+// How many operands the construction of an object keeps.
+fn new_kept(class: u32, args: &Items<Expr>, child: u32) -> usize
+    ensures { result ≡ expr_kept (Expr-F.New class (map to_one args.now)) child }
+{
+    if args.len() == 0 { 0 } else { child as usize + 1 }
+}
+
 /// The move of an expression that gets the value of a child.
 fn receive_expr(
     alloc: Global,
@@ -395,61 +495,31 @@ fn receive_expr(
     match e {
         Expr::SetLocal(local, _) => store(alloc, *local, v),
         Expr::Get { of: _, class, field } => get(alloc, *class, *field, v),
-        Expr::Put { of: _, class, field, .. } => {
-            receive_put(alloc, *class, *field, child, v, operands)
-        }
-        Expr::Call {
-            of: _,
-            class,
-            method,
-            args,
-        } => receive_call(alloc, *class, *method, args.len(), child, v, operands),
-        Expr::New { class, args } => {
-            receive_new(alloc, *class, args.len(), expr_kept(e, child as usize), child, v, operands)
-        }
-        Expr::Prim { op, args } => receive_prim(alloc, *op, args.len(), child, v, operands),
-        Expr::Convert { to, of: _ } => Ok(Move::Do(Act::Convert {
-            to: *to,
-            of: v.copy(alloc)?,
-        })),
+        Expr::Put { of: _, class, field, .. } => receive_put(alloc, *class, *field, child, v, operands),
+        Expr::Call { of: _, class, method, args } => receive_call(alloc, *class, *method, args, child, v, operands),
+        Expr::Prim { op, args } => receive_prim(alloc, *op, args, child, v, operands),
+        Expr::Convert { to, of: _ } => convert(alloc, *to, v),
         Expr::Equal(..) => receive_equal(alloc, child, v, operands),
         Expr::TextOf(_) => receive_text(alloc, child, v),
         Expr::Println(_) => receive_println(alloc, child, v),
         Expr::If(..) => receive_if(alloc, child, v),
-        Expr::While(..) => Ok(receive_while(child, v)),
-        Expr::Block(es) => receive_block(alloc, es.len(), child, v),
-        Expr::Try {
-            body: _,
-            handler,
-            last,
-        } => receive_try(alloc, child, v, operands, handler, last),
-        Expr::Throw(_) => Ok(receive_throw(v)),
-        Expr::Start(_) => Ok(Move::Do(Act::Start(v.copy(alloc)?))),
-        Expr::Match { of: _, cases } => receive_match(alloc, child, v, cases.as_slice()),
+        Expr::While(..) => receive_while(child, v),
+        Expr::Block(es) => receive_block(alloc, es, child, v),
+        Expr::Try { body: _, handler, last } => receive_try(alloc, child, v, operands, handler, last),
+        Expr::Throw(_) => receive_throw(v),
+        Expr::Start(_) => start(alloc, v),
+        Expr::Match { of: _, cases } => receive_match(alloc, child, v, cases),
         Expr::LazyGet { of: _, class, cell } => lazy_get(alloc, *class, *cell, v),
-        Expr::SuperCall { after, name, args } => {
-            receive_super(alloc, this, *after, name, args.len(), child, v, operands)
-        }
-        Expr::Test { of: _, test } => Ok(Move::Do(Act::Test {
-            of: v.copy(alloc)?,
-            test: *test,
-        })),
-        Expr::Cas { of: _, class, field, .. } => {
-            receive_cas(alloc, *class, *field, child, v, operands)
-        }
-        Expr::NewLatch(_) => Ok(Move::Do(Act::MakeLatch(v.copy(alloc)?))),
-        Expr::OwnedHere(_) => Ok(Move::Do(Act::IsMine(v.copy(alloc)?))),
-        Expr::Await(_) => Ok(Move::Do(Act::Await(v.copy(alloc)?))),
-        Expr::CountDown(_) => Ok(Move::Do(Act::CountDown(v.copy(alloc)?))),
-        Expr::StaticCall {
-            class,
-            method,
-            args,
-        } => receive_static(alloc, *class, *method, args.len(), child, v, operands),
-        Expr::SetModule(class, _) => Ok(Move::Do(Act::SetModule {
-            class: *class,
-            of: v.copy(alloc)?,
-        })),
+        Expr::SuperCall { after, name, args } => receive_super(alloc, this, *after, name, args, child, v, operands),
+        Expr::Test { of: _, test } => test_value(alloc, v, *test),
+        Expr::Cas { of: _, class, field, .. } => receive_cas(alloc, *class, *field, child, v, operands),
+        Expr::NewLatch(_) => make_latch(alloc, v),
+        Expr::OwnedHere(_) => is_mine(alloc, v),
+        Expr::Await(_) => await_latch(alloc, v),
+        Expr::CountDown(_) => count_down(alloc, v),
+        Expr::StaticCall { class, method, args } => receive_static(alloc, *class, *method, args, child, v, operands),
+        Expr::SetModule(class, _) => set_module(alloc, *class, v),
+        Expr::New { class, args } => receive_new(alloc, *class, args, child, v, operands),
         _ => Ok(Move::Stuck),
     }
 }

@@ -1,8 +1,9 @@
 //! Texts.
 
-ghost use Rattle.std.specs.Prelude.{◌≡◌, ◌++◌, pos, IfOk, IsTrue};
+ghost use Rattle.std.specs.Prelude.{◌≡◌, ◌+◌, ◌++◌, if◌then◌else◌, nat_lt, pos, IfOk, IsTrue};
 ghost use Rattle.std.specs.Char.{is_ascii};
 ghost use Rattle.std.specs.List.{list_all};
+ghost use Rattle.std.specs.Str.{chars};
 ghost use Rattle.sm_rule.specs.Values.{is_empty, units};
 
 use sl_base::{Name, NoMemory};
@@ -23,19 +24,38 @@ pub(crate) fn is_empty(text: &Name) -> bool
     text.as_str().chars().next().is_none()
 }
 
+// How many UTF-16 units a character has.
+fn width(c: char) -> u64
+    ensures { result ≡ if nat_lt c 65536 then 1 else 2 }
+{
+    if (c as u32) < 65536 { 1 } else { 2 }
+}
+
+fn add(count: u64, more: u64) -> Result<u64, NoMemory>
+    ensures { IfOk result (λ n. n ≡ count + more) }
+{
+    match count.checked_add(more) {
+        Some(n) => Ok(n),
+        None => Err(NoMemory),
+    }
+}
+
+#[tactic(auto, using(crate::proofs::Listed::units_push))]
+fn units_of(text: &str) -> Result<u64, NoMemory>
+    ensures { IfOk result (λ n. n ≡ units (chars text.now)) }
+{
+    let mut count: u64 = 0;
+    for character in text.chars() {
+        count = add(count, width(character))?;
+    }
+    Ok(count)
+}
+
 /// How many UTF-16 units a text has.
 pub(crate) fn units(text: &Name) -> Result<u64, NoMemory>
     ensures { IfOk result (λ n. n ≡ units text.now) }
 {
-    let mut count: u64 = 0;
-    for c in text.as_str().chars() {
-        let more = if (c as u32) < 65536 { 1 } else { 2 };
-        match count.checked_add(more) {
-            Some(n) => count = n,
-            None => return Err(NoMemory),
-        }
-    }
-    Ok(count)
+    units_of(text.as_str())
 }
 
 /// The same as an Int.

@@ -1,16 +1,10 @@
-use Rattle.std.proofs.Common.{◌≡◌, ◌-◌, ◌∷◌, [], ◌++◌, Some, take, map, reverse, ap, sym, ◌∙◌, arith}
+use Rattle.std.proofs.Common.{◌≡◌, ◌-◌, ◌++◌, Some, take, map, reverse, ap, ◌∙◌, arith}
 use Rattle.sm_rule.specs.Moves.{arguments}
-use Rattle.sm_decide.proofs.Listed.{arguments_step, arguments_skip}
+use Rattle.sm_decide.specs.Forms.{pushed}
+use Rattle.sm_decide.proofs.Listed.{arguments_pushed}
 use Rattle.sm_decide.proofs.operands.arguments.Goals as goal
 
-pub loop-left-preserved-in_ok-push : goal.loop-left-preserved-in_ok-push
-loop-left-preserved-in_ok-push c =
-    let made : c.push.new.self ≡ c.loop-left.made ++ Some c.in-Some.v.now ∷ [] =
-        c.in_ok-push.ensures.ok ∙ ap (λ v. c.loop-left.made ++ Some v ∷ []) c.in_ok-copy.ensures
-    in
-    ap (λ l. l ++ arguments c.args.last.now (take (c.loop-left.left - 1) c.args.operands.now)) made
-    ∙ arguments_step c.args.last.now c.args.operands.now c.loop-left.made _ c.loop-left.left c.in-Some.v.now (omega arith) (sym c.in-Some.ensures) c.loop-left.invariant
-
-pub loop-left-preserved-in-None : goal.loop-left-preserved-in-None
-loop-left-preserved-in-None c =
-    arguments_skip c.args.last.now c.args.operands.now c.loop-left.made _ c.loop-left.left (omega arith) (sym c.in-None.ensures) c.loop-left.invariant
+pub loop-left-preserved : goal.loop-left-preserved
+loop-left-preserved c =
+    ap (λ l. l ++ arguments c.args.last.now (take (c.loop-left.left - 1) c.args.operands.now)) (c.in_ok-push_some.ensures ∙ ap (pushed c.loop-left.made) c.get.ensures)
+    ∙ arguments_pushed c.args.last.now c.args.operands.now c.loop-left.made _ c.loop-left.left (omega arith) c.loop-left.invariant
