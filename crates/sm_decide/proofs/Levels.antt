@@ -1,13 +1,14 @@
 -- What a node of a known form does.
-use Rattle.std.proofs.Common.{◌≡◌, ℕ, List, Option, sym, ap, ◌∙◌}
+use Rattle.std.proofs.Common.{◌≡◌, ℕ, List, Option, Some, None, refl, sym, ap, ◌∙◌}
+use Rattle.std.specs.Prelude.{option_map}
 use Rattle.ty_prog.specs.Tree.{ExprLevel}
-use Rattle.ty_prog.specs.Shape.{expr_form, handler_form}
+use Rattle.ty_prog.specs.Shape.{expr_form, handler_form, to_one}
 use Rattle.ty_prog.specs.declared.expr.Expr.{Expr, out-Expr, out-roll-Expr}
 use Rattle.ty_prog.specs.declared.expr.Expr.TheVariants as expr
 use Rattle.ty_prog.specs.declared.catch.Catch.TheOpen.{Expr-F}
 use Rattle.ty_prog.specs.declared.prim_op.PrimOp.{PrimOp}
 use Rattle.sm_rule.specs.declared.moves.Move.{Move}
-use Rattle.sm_rule.specs.Moves.{Sight, expr_begun}
+use Rattle.sm_rule.specs.Moves.{Sight, expr_begun, printing}
 
 pub begun_of : (s : Sight) (e whole : Expr) (l : ExprLevel) → e ≡ whole → out-Expr whole ≡ l → expr_begun s (expr_form handler_form (out-Expr e)) ≡ expr_begun s (expr_form handler_form l)
 begun_of s e whole l is level =
@@ -34,3 +35,11 @@ object_get_level class = ap out-Expr (sym (expr.rolls-ObjectGet class)) ∙ out-
 
 pub module_get_level : (class : ℕ) → out-Expr (expr.ModuleGet class) ≡ Expr-F.ModuleGet class
 module_get_level class = ap out-Expr (sym (expr.rolls-ModuleGet class)) ∙ out-roll-Expr (Expr-F.ModuleGet class)
+
+abbrev pub println : Option Expr → ExprLevel
+println e = Expr-F.Println e
+
+-- a line is printed at once where it has no text to be computed
+pub printing_of : (s : Sight) (e : Option Expr) → expr_begun s (expr_form handler_form (println e)) ≡ printing (option_map to_one e)
+printing_of s None = refl
+printing_of s (Some e) = refl

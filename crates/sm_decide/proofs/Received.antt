@@ -14,9 +14,12 @@ pub received_of : (this : Value) (i : ℕ) (v : Value) (operands : List Value) (
 received_of this i v operands e whole l is rolls =
     ap (λ k. expr_received this i v (take (expr_kept (expr_form handler_form k) i) operands) (expr_form handler_form k)) (ap out-Expr (is ∙ sym rolls) ∙ out-roll-Expr l)
 
+abbrev pub try_level : Expr → Option Catch → Option Expr → ExprLevel
+try_level body handler last = Expr-F.Try body handler last
+
 -- a `try`, whatever it has behind its body
 pub try_received_of : (this : Value) (i : ℕ) (v : Value) (operands : List Value) (body : Expr) (handler : Option Catch) (last : Option Expr)
-    → expr_received this i v (take (expr_kept (expr_form handler_form (Expr-F.Try body handler last)) i) operands) (expr_form handler_form (Expr-F.Try body handler last))
+    → expr_received this i v (take (expr_kept (expr_form handler_form (try_level body handler last)) i) operands) (expr_form handler_form (try_level body handler last))
     ≡ try_received i v (take (try_kept (option_map handler_form handler) i) operands) (1 + handler_len (option_map handler_form handler)) (option_map to_one last)
 try_received_of this i v operands body None None = refl
 try_received_of this i v operands body None (Some l) = refl

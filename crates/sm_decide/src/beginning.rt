@@ -13,6 +13,7 @@ ghost use Rattle.sm_rule.specs.declared.act.Act.TheVariants as act;
 
 use crate::begin_pattern::begin_pattern;
 use crate::operands::push_some;
+use crate::texts::plain;
 use sl_base::{Name, NoMemory};
 use sm_rule::{Act, Args, Move};
 use sm_state::{Context, Level, Sequence, Stack, Value};
@@ -63,7 +64,7 @@ fn printing(alloc: Global, e: &Option<Boxed<Expr>>) -> Result<Move, NoMemory>
     ensures { IfOk result (λ m. m ≡ printing (option_map to_one e.now)) }
 {
     match e {
-        None => Ok(Move::Do(Act::Print(Name::from_text(alloc, "")?))),
+        None => Ok(Move::Do(Act::Print(plain(alloc, "")?))),
         Some(_) => Ok(Move::Turn(0)),
     }
 }

@@ -7,7 +7,7 @@ use Rattle.sm_rule.specs.Moves.{first_or, making}
 use Rattle.sm_rule.specs.Step.{sight}
 use Rattle.sm_rule.specs.declared.moves.Move.TheVariants as move
 use Rattle.sm_rule.specs.declared.act.Act.TheVariants as act
-use Rattle.sm_decide.proofs.Levels.{begun_of, prim_level, new_level, println_level, super_call_level, static_call_level, object_get_level, module_get_level}
+use Rattle.sm_decide.proofs.Levels.{begun_of, prim_level, new_level, println_level, printing_of, super_call_level, static_call_level, object_get_level, module_get_level}
 use Rattle.sm_decide.proofs.beginning.begin_expr.Goals as goal
 
 pub returns-in-Prim : goal.returns-in-Prim
@@ -26,7 +26,8 @@ returns-in-New c =
 pub returns-in-Println : goal.returns-in-Println
 returns-in-Println c =
     subst (λ target. IfOk c.printing.result (λ m. m ≡ target))
-    (sym (begun_of (sight c.args.c.now) c.args.e.now (expr.Println c.in-Println.field-0) (Expr-F.Println c.in-Println.field-0) c.in-Println.is (println_level c.in-Println.field-0)))
+    (sym (begun_of (sight c.args.c.now) c.args.e.now (expr.Println c.in-Println.e) (Expr-F.Println c.in-Println.e) c.in-Println.is (println_level c.in-Println.e)
+      ∙ printing_of (sight c.args.c.now) c.in-Println.e))
     c.printing.ensures
 
 pub returns-in_ok-alone-in-SuperCall : goal.returns-in_ok-alone-in-SuperCall
