@@ -58,7 +58,11 @@ fn pass_expr(
                 unmatched(alloc, own, operands)
             }
         }
-        Expr::Try { body: _, handler, .. } => {
+        Expr::Try {
+            body: _,
+            handler,
+            ..
+        } => {
             if (child as usize) < handler_len(handler) {
                 Ok(Move::Turn(next(child)?))
             } else {
@@ -138,12 +142,7 @@ fn finished(
     }))
 }
 
-fn catch_expr(
-    alloc: Global,
-    child: u32,
-    x: &Value,
-    e: &Expr,
-) -> Result<Option<Move>, NoMemory>
+fn catch_expr(alloc: Global, child: u32, x: &Value, e: &Expr) -> Result<Option<Move>, NoMemory>
     ensures { IfOk result (λ m. m ≡ caught child x.now (shape (ExprTree e.now))) }
 {
     match e {
@@ -160,12 +159,7 @@ fn catch_expr(
 }
 
 /// The move of a node out of whose child with this number an exception comes; None where it lets it go on.
-pub fn catch(
-    alloc: Global,
-    child: u32,
-    x: &Value,
-    node: Node<'_>,
-) -> Result<Option<Move>, NoMemory>
+pub fn catch(alloc: Global, child: u32, x: &Value, node: Node<'_>) -> Result<Option<Move>, NoMemory>
     ensures { IfOk result (λ m. m ≡ caught child x.now (shape (tree_of node.entry))) }
 {
     match node {

@@ -53,21 +53,13 @@ fn expr_kept(e: &Expr, child: usize) -> usize
         | Expr::SuperCall { .. }
         | Expr::Cas { .. }
         | Expr::StaticCall { .. } => child,
-        Expr::New { class: _, args } => {
-            if args.len() == 0 {
-                0
-            } else {
-                child + 1
-            }
-        }
-        Expr::Try { body: _, handler, .. } => try_kept(handler, child),
-        Expr::Match { .. } => {
-            if child == 0 {
-                0
-            } else {
-                1
-            }
-        }
+        Expr::New { class: _, args } => { if args.len() == 0 { 0 } else { child + 1 } }
+        Expr::Try {
+            body: _,
+            handler,
+            ..
+        } => try_kept(handler, child),
+        Expr::Match { .. } => { if child == 0 { 0 } else { 1 } }
         _ => 0,
     }
 }
@@ -110,13 +102,7 @@ pub fn kept(node: Node<'_>, child: u32) -> usize
 {
     match node {
         Node::Expr(e) => expr_kept(e, child as usize),
-        Node::Case(_) => {
-            if child == 0 {
-                1
-            } else {
-                0
-            }
-        }
+        Node::Case(_) => { if child == 0 { 1 } else { 0 } }
         Node::Pattern(p) => pattern_kept(p),
         Node::Constructor(class) => super_kept(class, child as usize),
         Node::Stage(_) => 0,

@@ -1,14 +1,14 @@
 //! Which move a node makes, as the rules of the source meaning say.
 #![tactic(auto)]
 
-mod beginning;
 mod begin_pattern;
+mod beginning;
 mod catching;
 mod computing;
 mod keeping;
 mod operands;
-mod receiving;
 mod receive_pattern;
+mod receiving;
 mod texts;
 mod values;
 

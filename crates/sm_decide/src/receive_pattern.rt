@@ -14,12 +14,7 @@ use sm_state::{Stack, Value};
 use std::alloc::Global;
 use ty_prog::Pattern;
 
-fn bind(
-    alloc: Global,
-    local: u32,
-    v: &Value,
-    operands: &Stack<Value>,
-) -> Result<Move, NoMemory>
+fn bind(alloc: Global, local: u32, v: &Value, operands: &Stack<Value>) -> Result<Move, NoMemory>
     ensures { IfOk result (λ m. m ≡ bound local v.now (take 1 operands.now)) }
 {
     match (v, operands.top()) {

@@ -20,8 +20,8 @@ use crate::texts::plain;
 use sl_base::{Name, NoMemory};
 use sm_rule::{Act, Move};
 use sm_state::{Stack, Value};
-use std::alloc::Global;
 use sqlite_items::{Boxed, Items};
+use std::alloc::Global;
 use ty_prog::{Case, Catch, Class, Expr, Kind, Node, PrimOp, Tested, Ty};
 
 // How many expressions there are.
@@ -384,7 +384,12 @@ fn receive_try(
     })
 }
 
-fn receive_match(alloc: Global, child: u32, v: &Value, cases: &Items<Case>) -> Result<Move, NoMemory>
+fn receive_match(
+    alloc: Global,
+    child: u32,
+    v: &Value,
+    cases: &Items<Case>,
+) -> Result<Move, NoMemory>
     ensures { IfOk result (λ m. m ≡ match_received child v.now (map to_one cases.now)) }
 {
     if child > 0 {
@@ -429,7 +434,10 @@ fn store(alloc: Global, local: u32, v: &Value) -> Result<Move, NoMemory>
 fn convert(alloc: Global, to: Ty, v: &Value) -> Result<Move, NoMemory>
     ensures { IfOk result (λ m. m ≡ move.Do (act.Convert to v.now)) }
 {
-    Ok(Move::Do(Act::Convert { to, of: v.copy(alloc)? }))
+    Ok(Move::Do(Act::Convert {
+        to,
+        of: v.copy(alloc)?,
+    }))
 }
 
 fn start(alloc: Global, v: &Value) -> Result<Move, NoMemory>
@@ -441,7 +449,10 @@ fn start(alloc: Global, v: &Value) -> Result<Move, NoMemory>
 fn test_value(alloc: Global, v: &Value, test: Tested) -> Result<Move, NoMemory>
     ensures { IfOk result (λ m. m ≡ move.Do (act.Test v.now test)) }
 {
-    Ok(Move::Do(Act::Test { of: v.copy(alloc)?, test }))
+    Ok(Move::Do(Act::Test {
+        of: v.copy(alloc)?,
+        test,
+    }))
 }
 
 fn make_latch(alloc: Global, v: &Value) -> Result<Move, NoMemory>
@@ -471,14 +482,21 @@ fn count_down(alloc: Global, v: &Value) -> Result<Move, NoMemory>
 fn set_module(alloc: Global, class: u32, v: &Value) -> Result<Move, NoMemory>
     ensures { IfOk result (λ m. m ≡ move.Do (act.SetModule class v.now)) }
 {
-    Ok(Move::Do(Act::SetModule { class, of: v.copy(alloc)? }))
+    Ok(Move::Do(Act::SetModule {
+        class,
+        of: v.copy(alloc)?,
+    }))
 }
 
 // How many operands the construction of an object keeps.
 fn new_kept(class: u32, args: &Items<Expr>, child: u32) -> usize
     ensures { result ≡ expr_kept (Expr-F.New class (map to_one args.now)) child }
 {
-    if args.len() == 0 { 0 } else { child as usize + 1 }
+    if args.len() == 0 {
+        0
+    } else {
+        child as usize + 1
+    }
 }
 
 /// The move of an expression that gets the value of a child.
@@ -494,9 +512,23 @@ fn receive_expr(
 {
     match e {
         Expr::SetLocal(local, _) => store(alloc, *local, v),
-        Expr::Get { of: _, class, field } => get(alloc, *class, *field, v),
-        Expr::Put { of: _, class, field, .. } => receive_put(alloc, *class, *field, child, v, operands),
-        Expr::Call { of: _, class, method, args } => receive_call(alloc, *class, *method, args, child, v, operands),
+        Expr::Get {
+            of: _,
+            class,
+            field,
+        } => get(alloc, *class, *field, v),
+        Expr::Put {
+            of: _,
+            class,
+            field,
+            ..
+        } => receive_put(alloc, *class, *field, child, v, operands),
+        Expr::Call {
+            of: _,
+            class,
+            method,
+            args,
+        } => receive_call(alloc, *class, *method, args, child, v, operands),
         Expr::Prim { op, args } => receive_prim(alloc, *op, args, child, v, operands),
         Expr::Convert { to, of: _ } => convert(alloc, *to, v),
         Expr::Equal(..) => receive_equal(alloc, child, v, operands),
@@ -505,19 +537,34 @@ fn receive_expr(
         Expr::If(..) => receive_if(alloc, child, v),
         Expr::While(..) => receive_while(child, v),
         Expr::Block(es) => receive_block(alloc, es, child, v),
-        Expr::Try { body: _, handler, last } => receive_try(alloc, child, v, operands, handler, last),
+        Expr::Try {
+            body: _,
+            handler,
+            last,
+        } => receive_try(alloc, child, v, operands, handler, last),
         Expr::Throw(_) => receive_throw(v),
         Expr::Start(_) => start(alloc, v),
         Expr::Match { of: _, cases } => receive_match(alloc, child, v, cases),
         Expr::LazyGet { of: _, class, cell } => lazy_get(alloc, *class, *cell, v),
-        Expr::SuperCall { after, name, args } => receive_super(alloc, this, *after, name, args, child, v, operands),
+        Expr::SuperCall { after, name, args } => receive_super(
+            alloc, this, *after, name, args, child, v, operands,
+        ),
         Expr::Test { of: _, test } => test_value(alloc, v, *test),
-        Expr::Cas { of: _, class, field, .. } => receive_cas(alloc, *class, *field, child, v, operands),
+        Expr::Cas {
+            of: _,
+            class,
+            field,
+            ..
+        } => receive_cas(alloc, *class, *field, child, v, operands),
         Expr::NewLatch(_) => make_latch(alloc, v),
         Expr::OwnedHere(_) => is_mine(alloc, v),
         Expr::Await(_) => await_latch(alloc, v),
         Expr::CountDown(_) => count_down(alloc, v),
-        Expr::StaticCall { class, method, args } => receive_static(alloc, *class, *method, args, child, v, operands),
+        Expr::StaticCall {
+            class,
+            method,
+            args,
+        } => receive_static(alloc, *class, *method, args, child, v, operands),
         Expr::SetModule(class, _) => set_module(alloc, *class, v),
         Expr::New { class, args } => receive_new(alloc, *class, args, child, v, operands),
         _ => Ok(Move::Stuck),

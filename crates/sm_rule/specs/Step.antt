@@ -162,7 +162,7 @@ abbrev pub passes : Program → Heap → ℕ → Context → List Level → List
 passes p h t c [] cs = Stuck
 passes p h t c (l ∷ levels) cs =
     carried p h t c (ended_at c (kept (shape l.node) l.child) l levels) l.node levels cs
-      (passed l.child (take (kept (shape l.node) l.child) c.operands) (shape l.node))
+    (passed l.child (take (kept (shape l.node) l.child) c.operands) (shape l.node))
 
 abbrev pub carried_or_passed : Program → Heap → ℕ → Context → Context → Tree → List Level → List Context → Move → After
 carried_or_passed p h t c e tree levels cs move.Pass = passes p h t e levels cs
@@ -171,7 +171,7 @@ carried_or_passed p h t c e tree levels cs m = carried p h t c e tree levels cs 
 abbrev pub receives : Program → Heap → ℕ → Context → List Context → Value → Level → List Level → After
 receives p h t c cs v l levels =
     carried_or_passed p h t c (ended_at c (kept (shape l.node) l.child) l levels) l.node levels cs
-      (received c.this l.child v (take (kept (shape l.node) l.child) c.operands) (shape l.node))
+    (received c.this l.child v (take (kept (shape l.node) l.child) c.operands) (shape l.node))
 
 -- ---- a context is left
 
@@ -235,7 +235,7 @@ abbrev pub landing : Value → ℕ → List Level → Option Landing
 landing x n [] = None
 landing x n (l ∷ levels) =
     caught_at (caught l.child x (shape l.node)) (n + kept (shape l.node) l.child) l levels
-      (landing x (n + kept (shape l.node) l.child) levels)
+    (landing x (n + kept (shape l.node) l.child) levels)
 
 -- an exception leaves a part: the cell is empty again, the object definition bad
 abbrev pub dropped : Program → Heap → Context → Part → Edit

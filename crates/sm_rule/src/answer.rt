@@ -7,9 +7,20 @@ use ty_prog::Event;
 #[derive(Debug, Drop)]
 pub enum Edit {
     Nothing,
-    Field { object: u32, at: usize, value: Value },
-    Cell { object: u32, at: usize, once: Once },
-    Module { class: u32, module: Module },
+    Field {
+        object: u32,
+        at: usize,
+        value: Value,
+    },
+    Cell {
+        object: u32,
+        at: usize,
+        once: Once,
+    },
+    Module {
+        class: u32,
+        module: Module,
+    },
     AddObject(Object),
     AddLatch,
     OpenLatch(u32),

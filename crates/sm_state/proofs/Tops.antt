@@ -60,18 +60,18 @@ pub get_reverse : {A : Type 0} (xs : List A) (k : ℕ) → k < length xs → sli
 get_reverse [] k lt = absurd (omega arith)
 get_reverse (x ∷ xs) k lt = ⊎_elim
     (λ below.
-      let at : length (x ∷ xs) - 1 - k ≡ suc (length xs - 1 - k) = omega arith in
-      ap (λ l. slice_get l k) (reverse_onto xs x [])
-      ∙ get_behind (reverse xs) (x ∷ []) x k (omega (arith, length-reverse xs))
-      ∙ get_reverse xs k below
-      ∙ sym (ap (slice_get (x ∷ xs)) at))
+    let at : length (x ∷ xs) - 1 - k ≡ suc (length xs - 1 - k) = omega arith in
+    ap (λ l. slice_get l k) (reverse_onto xs x [])
+    ∙ get_behind (reverse xs) (x ∷ []) x k (omega (arith, length-reverse xs))
+    ∙ get_reverse xs k below
+    ∙ sym (ap (slice_get (x ∷ xs)) at))
     (λ above.
-      let last : k ≡ length (reverse xs) = omega (arith, length-reverse xs) in
-      let first : length (x ∷ xs) - 1 - k ≡ 0 = omega arith in
-      ap (λ l. slice_get l k) (reverse_onto xs x [])
-      ∙ ap (slice_get (reverse xs ++ x ∷ [])) last
-      ∙ get_seam (reverse xs) x
-      ∙ sym (ap (slice_get (x ∷ xs)) first))
+    let last : k ≡ length (reverse xs) = omega (arith, length-reverse xs) in
+    let first : length (x ∷ xs) - 1 - k ≡ 0 = omega arith in
+    ap (λ l. slice_get l k) (reverse_onto xs x [])
+    ∙ ap (slice_get (reverse xs ++ x ∷ [])) last
+    ∙ get_seam (reverse xs) x
+    ∙ sym (ap (slice_get (x ∷ xs)) first))
     (cases_lt k (length xs))
 
 none_at : {A : Type 0} (xs : List A) (k : ℕ) → length xs ≤ k → slice_get xs k ≡ None

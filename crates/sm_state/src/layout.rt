@@ -62,7 +62,10 @@ fn field_offset(classes: &[Class], linear: &[u32], class: u32) -> Result<Option<
             if *c == class {
                 return Ok(Some(0));
             }
-            behind(fields_of(classes, *c).len(), field_offset(classes, rest, class)?)
+            behind(
+                fields_of(classes, *c).len(),
+                field_offset(classes, rest, class)?,
+            )
         }
     }
 }
@@ -76,7 +79,10 @@ fn cell_offset(classes: &[Class], linear: &[u32], class: u32) -> Result<Option<u
             if *c == class {
                 return Ok(Some(0));
             }
-            behind(cells_of(classes, *c).len(), cell_offset(classes, rest, class)?)
+            behind(
+                cells_of(classes, *c).len(),
+                cell_offset(classes, rest, class)?,
+            )
         }
     }
 }

@@ -29,3 +29,6 @@ pub use starting::start;
 pub use state::State;
 pub use thread::{Context, Level, Thread};
 pub use value::Value;
+
+#[cfg(test)]
+mod tests;

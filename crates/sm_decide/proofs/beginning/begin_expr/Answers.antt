@@ -11,14 +11,14 @@ use Rattle.sm_decide.proofs.Levels.{begun_of, prim_level, new_level, println_lev
 use Rattle.sm_decide.proofs.beginning.begin_expr.Goals as goal
 
 pub returns-in-Prim : goal.returns-in-Prim
-returns-in-Prim c = 
+returns-in-Prim c =
     c.first_or-in-Prim.ensures
     ∙ ap (λ xs. first_or (map to_one xs) c.lone.result) c.as_slice-in-Prim.ensures
     ∙ ap (first_or (map to_one c.in-Prim.args)) c.lone.ensures
     ∙ sym (begun_of (sight c.args.c.now) c.args.e.now (expr.Prim c.in-Prim.op c.in-Prim.args) (Expr-F.Prim c.in-Prim.op c.in-Prim.args) c.in-Prim.is (prim_level c.in-Prim.op c.in-Prim.args))
 
 pub returns-in-New : goal.returns-in-New
-returns-in-New c = 
+returns-in-New c =
     c.making.ensures
     ∙ ap (λ xs. making c.in-New.class (map to_one xs)) c.as_slice-in-New.ensures
     ∙ sym (begun_of (sight c.args.c.now) c.args.e.now (expr.New c.in-New.class c.in-New.args) (Expr-F.New c.in-New.class c.in-New.args) c.in-New.is (new_level c.in-New.class c.in-New.args))
@@ -27,7 +27,7 @@ pub returns-in-Println : goal.returns-in-Println
 returns-in-Println c =
     subst (λ target. IfOk c.printing.result (λ m. m ≡ target))
     (sym (begun_of (sight c.args.c.now) c.args.e.now (expr.Println c.in-Println.e) (Expr-F.Println c.in-Println.e) c.in-Println.is (println_level c.in-Println.e)
-      ∙ printing_of (sight c.args.c.now) c.in-Println.e))
+    ∙ printing_of (sight c.args.c.now) c.in-Println.e))
     c.printing.ensures
 
 pub returns-in_ok-alone-in-SuperCall : goal.returns-in_ok-alone-in-SuperCall
@@ -38,7 +38,7 @@ returns-in_ok-alone-in-SuperCall c =
     ∙ sym (begun_of (sight c.args.c.now) c.args.e.now (expr.SuperCall c.in-SuperCall.after c.in-SuperCall.name c.in-SuperCall.args) (Expr-F.SuperCall c.in-SuperCall.after c.in-SuperCall.name c.in-SuperCall.args) c.in-SuperCall.is (super_call_level c.in-SuperCall.after c.in-SuperCall.name c.in-SuperCall.args))
 
 pub returns-in-StaticCall : goal.returns-in-StaticCall
-returns-in-StaticCall c = 
+returns-in-StaticCall c =
     c.first_or-in-StaticCall.ensures
     ∙ ap (λ xs. first_or (map to_one xs) (move.Do (act.CallDirectly c.in-StaticCall.class c.in-StaticCall.method c.new.result))) c.as_slice-in-StaticCall.ensures
     ∙ ap (λ l. first_or (map to_one c.in-StaticCall.args) (move.Do (act.CallDirectly c.in-StaticCall.class c.in-StaticCall.method l))) c.new.ensures

@@ -80,8 +80,8 @@ pub returns-in-Try : goal.returns-in-Try
 returns-in-Try c =
     subst (λ target. IfOk c.receive_try.result (λ m. m ≡ target))
     (sym
-      (received_of c.args.this.now c.args.child c.args.v.now c.args.operands.now c.args.e.now _ _ c.in-Try.is (expr.rolls-Try _ _ _)
-      ∙ try_received_of c.args.this.now c.args.child c.args.v.now c.args.operands.now c.in-Try.body c.in-Try.handler c.in-Try.last))
+    (received_of c.args.this.now c.args.child c.args.v.now c.args.operands.now c.args.e.now _ _ c.in-Try.is (expr.rolls-Try _ _ _)
+    ∙ try_received_of c.args.this.now c.args.child c.args.v.now c.args.operands.now c.in-Try.body c.in-Try.handler c.in-Try.last))
     c.receive_try.ensures
 
 pub returns-in-Throw : goal.returns-in-Throw
