@@ -1,3 +1,4 @@
 pub mod Levels
 pub mod Orders
 pub mod Settings
+pub mod Turns

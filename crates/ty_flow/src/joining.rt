@@ -1,63 +1,145 @@
 //! What parts do with a local, put together.
+#![tactic(auto, unfolding(crate::specs::Uses::either_way, crate::specs::Uses::negated, crate::specs::Uses::followed, crate::specs::Uses::chosen, crate::specs::Uses::looped, crate::specs::Uses::tried, crate::specs::Uses::tested, crate::specs::Uses::or_else, crate::specs::Uses::bound))]
 
-ghost use Rattle.std.specs.Prelude.{◌≡◌, [], ◌∷◌, ◌++◌, option_map, option_to_list};
+ghost use Rattle.std.specs.Prelude.{◌≡◌, [], ◌∷◌, option_map, option_to_list};
 ghost use Rattle.std.specs.Option.{unwrap_or};
-ghost use Rattle.ty_flow.specs.Uses.{untouched, followed, either, in_order, looped, tried, stored, read};
-ghost use Rattle.ty_flow.specs.Parts.{each_in_order};
+ghost use Rattle.ty_flow.specs.Uses.{untouched, literal, either_way, negated, followed, chosen, both, one_of, in_order, looped, tried, tested, or_else, guarded, operated, stored, read, bound};
 
-use crate::passage::Passage;
+use crate::passage::{CasePassage, Passage};
+use ty_prog::PrimOp;
 
 /// The local isn't touched.
 pub(crate) const UNTOUCHED: Passage = Passage {
     reads: false,
-    sets: false,
+    on_true: false,
+    on_false: false,
 };
 
 /// No way ends normally.
 pub(crate) const LEAVES: Passage = Passage {
     reads: false,
-    sets: true,
+    on_true: true,
+    on_false: true,
 };
 
-/// One after the other.
+/// A case that is never taken.
+pub(crate) const NO_CASE: CasePassage = CasePassage {
+    taken: LEAVES,
+    failed: false,
+};
+
+/// A literal: no way gives the other value.
+pub(crate) fn literal(b: bool) -> Passage
+    ensures { result ≡ literal b }
+{
+    Passage {
+        reads: false,
+        on_true: !b,
+        on_false: b,
+    }
+}
+
+/// Parts whose values aren't that of the whole.
+pub(crate) fn either_way(parts: Passage) -> Passage
+    ensures { result ≡ either_way parts }
+{
+    let sets = parts.on_true && parts.on_false;
+    Passage {
+        reads: parts.reads,
+        on_true: sets,
+        on_false: sets,
+    }
+}
+
+/// `!`.
+pub(crate) fn negated(of: Passage) -> Passage
+    ensures { result ≡ negated of }
+{
+    Passage {
+        reads: of.reads,
+        on_true: of.on_false,
+        on_false: of.on_true,
+    }
+}
+
+/// An operator, by what its operands do one after the other.
+pub(crate) fn operated(op: PrimOp, parts: Passage) -> Passage
+    ensures { result ≡ operated op parts }
+{
+    match op {
+        PrimOp::Not => negated(parts),
+        _ => either_way(parts),
+    }
+}
+
+/// One after the other, which gives the value.
 pub(crate) fn followed(one: Passage, next: Passage) -> Passage
     ensures { result ≡ followed one next }
 {
+    let sets = one.on_true && one.on_false;
     Passage {
-        reads: one.reads || (!one.sets && next.reads),
-        sets: one.sets || next.sets,
+        reads: one.reads || (!sets && next.reads),
+        on_true: sets || next.on_true,
+        on_false: sets || next.on_false,
     }
 }
 
-/// One or the other.
-pub(crate) fn either(one: Passage, other: Passage) -> Passage
-    ensures { result ≡ either one other }
+/// A condition, and what follows where it is true, and where it is false.
+pub(crate) fn chosen(condition: Passage, one: Passage, other: Passage) -> Passage
+    ensures { result ≡ chosen condition one other }
 {
     Passage {
-        reads: one.reads || other.reads,
-        sets: one.sets && other.sets,
+        reads: condition.reads
+            || (!condition.on_true && one.reads)
+            || (!condition.on_false && other.reads),
+        on_true: (condition.on_true || one.on_true) && (condition.on_false || other.on_true),
+        on_false: (condition.on_true || one.on_false) && (condition.on_false || other.on_false),
     }
 }
 
+/// Both of two conditions, as `&&`.
+pub(crate) fn both(one: Passage, other: Passage) -> Passage
+    ensures { result ≡ both one other }
+{
+    chosen(one, other, literal(false))
+}
+
+/// One of two conditions, as `||`.
+pub(crate) fn one_of(one: Passage, other: Passage) -> Passage
+    ensures { result ≡ one_of one other }
+{
+    chosen(one, literal(true), other)
+}
+
+/// No operand.
+pub(crate) fn none() -> Passage
+    ensures { result ≡ in_order [] }
+{
+    UNTOUCHED
+}
+
+/// One operand.
 pub(crate) fn alone(only: Passage) -> Passage
     ensures { result ≡ in_order (only ∷ []) }
 {
-    followed(only, UNTOUCHED)
+    either_way(only)
 }
 
+/// Two operands.
 pub(crate) fn two(one: Passage, next: Passage) -> Passage
     ensures { result ≡ in_order (one ∷ next ∷ []) }
 {
-    followed(one, alone(next))
+    either_way(followed(one, next))
 }
 
+/// Three operands.
 pub(crate) fn three(one: Passage, next: Passage, last: Passage) -> Passage
     ensures { result ≡ in_order (one ∷ next ∷ last ∷ []) }
 {
-    followed(one, two(next, last))
+    either_way(followed(followed(one, next), last))
 }
 
-/// A part that may be there.
+/// An operand that may be there.
 pub(crate) fn printed(part: Option<Passage>) -> Passage
     ensures { result ≡ in_order (option_to_list (option_map (λ u. u) part)) }
 {
@@ -77,23 +159,14 @@ pub(crate) fn ended(last: Option<Passage>) -> Passage
     }
 }
 
-/// A pattern, a guard that may be there, and a body.
-pub(crate) fn of_case(pattern: Passage, guard: Option<Passage>, body: Passage) -> Passage
-    ensures { result ≡ in_order (pattern ∷ option_to_list (option_map (λ u. u) guard) ++ body ∷ []) }
-{
-    match guard {
-        Some(guard) => three(pattern, guard, body),
-        None => two(pattern, body),
-    }
-}
-
-/// The condition, and then the body and the condition any number of times.
+/// The condition, and while it is true the body and the condition again.
 pub(crate) fn looped(condition: Passage, body: Passage) -> Passage
     ensures { result ≡ looped condition body }
 {
     Passage {
-        reads: followed(condition, body).reads,
-        sets: condition.sets,
+        reads: condition.reads || (!condition.on_true && body.reads),
+        on_true: condition.on_false,
+        on_false: condition.on_false,
     }
 }
 
@@ -101,9 +174,47 @@ pub(crate) fn looped(condition: Passage, body: Passage) -> Passage
 pub(crate) fn tried(body: Passage, handler: Passage, last: Passage) -> Passage
     ensures { result ≡ tried body handler last }
 {
+    let sets = (body.on_true && body.on_false && handler.on_true && handler.on_false)
+        || (last.on_true && last.on_false);
     Passage {
         reads: body.reads || handler.reads || last.reads,
-        sets: (body.sets && handler.sets) || last.sets,
+        on_true: sets,
+        on_false: sets,
+    }
+}
+
+/// A pattern, and its guard if it has one.
+pub(crate) fn guarded(pattern: Passage, guard: Option<Passage>) -> Passage
+    ensures { result ≡ guarded pattern guard }
+{
+    match guard {
+        Some(guard) => both(pattern, guard),
+        None => pattern,
+    }
+}
+
+/// A case: what decides whether it is taken, and its body.
+pub(crate) fn tested(test: Passage, body: Passage) -> CasePassage
+    ensures { result ≡ tested test body }
+{
+    CasePassage {
+        taken: chosen(test, body, LEAVES),
+        failed: test.on_false,
+    }
+}
+
+/// A case, and another where it isn't taken.
+pub(crate) fn or_else(one: CasePassage, other: CasePassage) -> CasePassage
+    ensures { result ≡ or_else one other }
+{
+    let taken = Passage {
+        reads: one.taken.reads || (!one.failed && other.taken.reads),
+        on_true: one.taken.on_true && (one.failed || other.taken.on_true),
+        on_false: one.taken.on_false && (one.failed || other.taken.on_false),
+    };
+    CasePassage {
+        taken,
+        failed: one.failed || other.failed,
     }
 }
 
@@ -120,6 +231,18 @@ pub(crate) fn read(local: u32, other: u32) -> Passage
 {
     Passage {
         reads: other == local,
-        sets: false,
+        on_true: false,
+        on_false: false,
+    }
+}
+
+/// What matches is stored into a local.
+pub(crate) fn bound(local: u32, other: u32, pattern: Passage) -> Passage
+    ensures { result ≡ bound local other pattern }
+{
+    Passage {
+        reads: pattern.reads,
+        on_true: pattern.on_true || other == local,
+        on_false: pattern.on_false,
     }
 }

@@ -7,6 +7,6 @@ mod passage;
 pub mod passing;
 mod set_first;
 
-pub use laws::ways;
+pub use laws::{cases, conditions, ways};
 pub use passage::Passage;
 pub use set_first::{are_set_first, locals_are_set_first};

@@ -1,40 +1,40 @@
 //! What a tree does with one local, part by part.
 
-ghost use Rattle.std.specs.Prelude.{◌≡◌, map, option_map};
+ghost use Rattle.std.specs.Prelude.{◌≡◌, false, fold, map, option_map};
 ghost use Rattle.std.specs.Option.{unwrap_or};
 ghost use Rattle.ty_prog.specs.Tree.{ConstructorTree};
 ghost use Rattle.ty_prog.specs.Node.{tree_of};
-ghost use Rattle.ty_flow.specs.Uses.{leaves, one_of, expr_passage, passage};
-ghost use Rattle.ty_flow.specs.Parts.{each_in_order, handler_passage, case_passage, pattern_passage};
+ghost use Rattle.ty_flow.specs.Uses.{untouched, leaves, literal, followed, both, one_of, first_of, expr_passage, passage};
+ghost use Rattle.ty_flow.specs.Parts.{handler_passage, case_passage, pattern_passage};
 
 use crate::joining::{
-    LEAVES, UNTOUCHED, alone, either, ended, followed, looped, of_case, printed, read, stored,
-    three, tried, two,
+    LEAVES, NO_CASE, UNTOUCHED, alone, both, bound, chosen, either_way, ended, followed, guarded,
+    literal, looped, none, one_of, operated, or_else, printed, read, stored, tested, three, tried,
+    two,
 };
-use crate::passage::Passage;
-use sqlite_items::{Boxed, Items};
+use crate::passage::{CasePassage, Passage};
+use sqlite_items::Boxed;
 use ty_prog::{Case, Catch, Class, Expr, Node, Pattern};
 
-/// What a tree does with one local.
+/// What a tree does with one local; a case as the way on which it is taken.
 pub fn passage(local: u32, root: Node<'_>) -> Passage
     ensures { result ≡ passage local (tree_of root.entry) }
 {
     match root {
         Node::Expr(e) => expr_passage(local, e),
-        Node::Case(c) => case_passage(local, c),
+        Node::Case(c) => case_passage(local, c).taken,
         Node::Pattern(p) => pattern_passage(local, p),
         Node::Constructor(class) => constructor_passage(local, class),
         Node::Stage(_) => UNTOUCHED,
     }
 }
 
-#[tactic(auto, using(crate::proofs::Orders::constructor_order))]
 fn constructor_passage(local: u32, class: &Class) -> Passage
     ensures { result ≡ passage local (ConstructorTree class.now) }
 {
-    let args = exprs(local, &class.super_args);
-    let body = exprs(local, &class.body);
-    followed(args, body)
+    let args = exprs_behind(local, UNTOUCHED, class.super_args.as_slice());
+    let body = exprs_behind(local, UNTOUCHED, class.body.as_slice());
+    two(args, body)
 }
 
 #[cycle(passages)]
@@ -44,13 +44,13 @@ fn expr_passage(local: u32, e: &Expr) -> Passage
     match e {
         Expr::Int(_)
         | Expr::Long(_)
-        | Expr::Bool(_)
         | Expr::Text(_)
         | Expr::Null
         | Expr::Unit
         | Expr::This
         | Expr::ObjectGet(_)
-        | Expr::ModuleGet(_) => UNTOUCHED,
+        | Expr::ModuleGet(_) => none(),
+        Expr::Bool(b) => literal(*b),
         Expr::Local(other) => read(local, *other),
         Expr::SetLocal(other, of) => followed(expr_passage(local, of.get()), stored(local, *other)),
         Expr::Throw(of) => followed(expr_passage(local, of.get()), LEAVES),
@@ -71,9 +71,10 @@ fn expr_passage(local: u32, e: &Expr) -> Passage
         ),
         Expr::Equal(a, b) => two(expr_passage(local, a.get()), expr_passage(local, b.get())),
         Expr::While(a, b) => looped(expr_passage(local, a.get()), expr_passage(local, b.get())),
-        Expr::If(a, b, c) => followed(
+        Expr::If(a, b, c) => chosen(
             expr_passage(local, a.get()),
-            either(expr_passage(local, b.get()), expr_passage(local, c.get())),
+            expr_passage(local, b.get()),
+            expr_passage(local, c.get()),
         ),
         Expr::Cas { of, old, new, .. } => three(
             expr_passage(local, of.get()),
@@ -81,15 +82,23 @@ fn expr_passage(local: u32, e: &Expr) -> Passage
             expr_passage(local, new.get()),
         ),
         Expr::Println(of) => printed(optional(local, of)),
-        Expr::Block(args)
-        | Expr::New { class: _, args }
-        | Expr::Prim { op: _, args }
-        | Expr::SuperCall { args, .. }
-        | Expr::StaticCall { args, .. } => exprs(local, args),
-        Expr::Call { of, args, .. } => followed(expr_passage(local, of.get()), exprs(local, args)),
-        Expr::Match { of, cases } => {
-            followed(expr_passage(local, of.get()), one_case(local, cases))
+        Expr::Block(parts) => exprs_behind(local, UNTOUCHED, parts.as_slice()),
+        Expr::Prim { op, args } => {
+            operated(*op, exprs_behind(local, UNTOUCHED, args.as_slice()))
         }
+        Expr::New { class: _, args }
+        | Expr::SuperCall { args, .. }
+        | Expr::StaticCall { args, .. } => {
+            either_way(exprs_behind(local, UNTOUCHED, args.as_slice()))
+        }
+        Expr::Call { of, args, .. } => {
+            let of = followed(UNTOUCHED, expr_passage(local, of.get()));
+            either_way(exprs_behind(local, of, args.as_slice()))
+        }
+        Expr::Match { of, cases } => followed(
+            expr_passage(local, of.get()),
+            first_case(local, cases.as_slice()),
+        ),
         Expr::Try {
             body,
             handler,
@@ -118,37 +127,39 @@ fn handled(local: u32, handler: &Option<Catch>) -> Passage
 {
     match handler {
         None => LEAVES,
-        Some(Catch::Cases(cases)) => one_case(local, cases),
+        Some(Catch::Cases(cases)) => first_case(local, cases.as_slice()),
         Some(Catch::Any { local: other, body }) => {
             followed(stored(local, *other), expr_passage(local, body.get()))
         }
     }
 }
 
+// What stands before, and then some expressions one after the other.
 #[cycle(passages)]
-fn exprs(local: u32, es: &Items<Expr>) -> Passage
-    ensures { result ≡ each_in_order (map (expr_passage local) es.now) }
+fn exprs_behind(local: u32, before: Passage, es: &[Expr]) -> Passage
+    ensures { result ≡ fold followed before (map (expr_passage local) es.now) }
 {
-    let mut passed = UNTOUCHED;
-    for e in es.as_slice() {
+    let mut passed = before;
+    for e in es {
         passed = followed(passed, expr_passage(local, e));
     }
     passed
 }
 
+// The first of some cases that is taken.
 #[cycle(passages)]
-fn one_case(local: u32, cases: &Items<Case>) -> Passage
-    ensures { result ≡ one_of (map (case_passage local) cases.now) }
+fn first_case(local: u32, cases: &[Case]) -> Passage
+    ensures { result ≡ first_of (map (case_passage local) cases.now) }
 {
-    let mut passed = LEAVES;
-    for c in cases.as_slice() {
-        passed = either(passed, case_passage(local, c));
+    let mut passed = NO_CASE;
+    for c in cases {
+        passed = or_else(passed, case_passage(local, c));
     }
-    passed
+    passed.taken
 }
 
 #[cycle(passages)]
-fn case_passage(local: u32, c: &Case) -> Passage
+fn case_passage(local: u32, c: &Case) -> CasePassage
     ensures { result ≡ case_passage local c.now }
 {
     let pattern = pattern_passage(local, &c.pattern);
@@ -157,7 +168,7 @@ fn case_passage(local: u32, c: &Case) -> Passage
         None => None,
     };
     let body = expr_passage(local, &c.body);
-    of_case(pattern, guard, body)
+    tested(guarded(pattern, guard), body)
 }
 
 #[cycle(passages)]
@@ -165,34 +176,35 @@ fn pattern_passage(local: u32, p: &Pattern) -> Passage
     ensures { result ≡ pattern_passage local p.now }
 {
     match p {
-        Pattern::Any | Pattern::OfType(_) | Pattern::Object(_) => UNTOUCHED,
-        Pattern::Bind(other, p) => {
-            followed(pattern_passage(local, p.get()), stored(local, *other))
-        }
-        Pattern::Literal(e) => alone(expr_passage(local, e.get())),
-        Pattern::Make { class: _, parts } => parts_in_order(local, parts),
-        Pattern::Either(parts) => one_part(local, parts),
+        Pattern::Any => literal(true),
+        Pattern::OfType(_) | Pattern::Object(_) => UNTOUCHED,
+        Pattern::Bind(other, p) => bound(local, *other, pattern_passage(local, p.get())),
+        Pattern::Literal(e) => either_way(expr_passage(local, e.get())),
+        Pattern::Make { class: _, parts } => all_parts(local, parts.as_slice()),
+        Pattern::Either(parts) => one_part(local, parts.as_slice()),
     }
 }
 
+// The test for a class, and then all of some patterns.
 #[cycle(passages)]
-fn parts_in_order(local: u32, parts: &Items<Pattern>) -> Passage
-    ensures { result ≡ each_in_order (map (pattern_passage local) parts.now) }
+fn all_parts(local: u32, parts: &[Pattern]) -> Passage
+    ensures { result ≡ fold both untouched (map (pattern_passage local) parts.now) }
 {
     let mut passed = UNTOUCHED;
-    for p in parts.as_slice() {
-        passed = followed(passed, pattern_passage(local, p));
+    for p in parts {
+        passed = both(passed, pattern_passage(local, p));
     }
     passed
 }
 
+// One of some patterns.
 #[cycle(passages)]
-fn one_part(local: u32, parts: &Items<Pattern>) -> Passage
-    ensures { result ≡ one_of (map (pattern_passage local) parts.now) }
+fn one_part(local: u32, parts: &[Pattern]) -> Passage
+    ensures { result ≡ fold one_of (literal false) (map (pattern_passage local) parts.now) }
 {
-    let mut passed = LEAVES;
-    for p in parts.as_slice() {
-        passed = either(passed, pattern_passage(local, p));
+    let mut passed = literal(false);
+    for p in parts {
+        passed = one_of(passed, pattern_passage(local, p));
     }
     passed
 }

@@ -1,4 +1,4 @@
-use Rattle.ty_flow.proofs.Levels.{throw_reads, throw_leaves, set_reads, set_sets, block_reads, while_sets, if_sets, handler_reads}
+use Rattle.ty_flow.proofs.Levels.{throw_reads, throw_leaves, set_reads, set_sets, block_reads, handler_reads}
 use Rattle.ty_flow.proofs.laws.ways.Goals as goal
 
 pub returns : goal.returns
@@ -8,7 +8,5 @@ returns c = record {
   store = set_reads;
   stored = set_sets;
   block = block_reads;
-  repeated = while_sets;
-  branches = if_sets;
   handler = handler_reads;
 }
