@@ -1,5 +1,5 @@
 -- Each token that begins an expression or a pattern is continued two levels down.
-use Rattle.std.proofs.Common.{◌≡◌, ℕ, zero, suc, ◌≤◌, ◌+◌, Bool, true, false, List, [], ◌∷◌, ◌++◌, Option, Some, None, Ok, Err, refl, sym, ap, ◌∙◌, inl, inr, ◌⊎◌, arith}
+use Rattle.std.proofs.Common.{◌≡◌, ℕ, zero, suc, Bool, true, false, List, [], ◌∷◌, ◌++◌, Option, Some, None, refl, sym, ap, ◌∙◌, inl, inr, ◌⊎◌}
 use Rattle.std.specs.Prelude.{◌==◌, if◌then◌else◌, ◌&&◌, ◌||◌, encode_utf8_all}
 use Rattle.sl_text.specs.declared.span.Span.{Span}
 use Rattle.sl_ast.specs.declared.token.Token.{Token}
@@ -24,14 +24,14 @@ use Rattle.sl_ast.specs.declared.pattern.Pattern.{Pattern}
 use Rattle.sl_parse_expr.specs.declared.ahead.Ahead.{Ahead}
 use Rattle.sl_parse_expr.specs.declared.ahead.Ahead.TheVariants as see
 use Rattle.sl_parse_expr.specs.Ahead.{sort, same, of_shape, of_kind, of_operator}
-use Rattle.sl_parse_expr.specs.Starts.{begins_sign, begins_head, begins_expr, begins_stat}
+use Rattle.sl_parse_expr.specs.Starts.{begins_sign, begins_stat}
 use Rattle.sl_parse_expr.specs.Tokens.{ident_of, ident_by, sign_of, sign_by, sign_text, literal_of, literal_by, literal_word}
-use Rattle.sl_parse_expr.specs.Trees.{simple_tree, prefix_tree, infix_tree, plain_expr, literal_head, name_head, this_head, super_tree, new_tree, parens_tree, block_head, block_tree, if_tree, while_tree, try_tree, throw_tree}
-use Rattle.sl_parse_expr.specs.Reading.{Reader, absorb, nothing, and_then, ◌>>=◌, pure, ahead, one, one_by, given, word, expect, choose, option, fold, clean}
-use Rattle.sl_parse_expr.specs.Rules.{added, name, sign, literal, at_suffix, add_suffix, first_chain, goes_chain, at_operator, at_behind, start, suffix, suffixes, simple, signed, unsigned, prefix, operation, operations, infix_expr, plain, any, literal_start, name_start, this_start, super_start, new_start, new_args, parens_start, nothing_inside, expr_inside, block_start, braces, block, stats, block_item, at_item, add_item, if_expr, while_expr, try_expr, throw_expr, condition, lines, at_line, one_more, other, other_by, handler, finalizer}
-use Rattle.sl_parse_expr.proofs.Theory.{ok_of, decide, fold_stays}
+use Rattle.sl_parse_expr.specs.Trees.{simple_tree, prefix_tree, infix_tree, plain_expr, literal_head, name_head, this_head, super_tree, new_tree, parens_tree, block_head, block_tree}
+use Rattle.sl_parse_expr.specs.Reading.{Reader, absorb, nothing, ahead, one, given, word, expect, choose, clean}
+use Rattle.sl_parse_expr.specs.Rules.{added, name, sign, literal, at_suffix, add_suffix, first_chain, at_operator, at_behind, start, suffix, suffixes, simple, signed, unsigned, prefix, operation, operations, infix_expr, plain, any, literal_start, name_start, this_start, super_start, new_start, parens_start, nothing_inside, block_start, braces, block, stats, block_item, at_item, add_item, if_expr, while_expr, try_expr, throw_expr}
+use Rattle.sl_parse_expr.proofs.Theory.{ok_of, fold_stays}
 use Rattle.sl_parse_expr.proofs.Choices.{both_false}
-use Rattle.sl_parse_expr.proofs.Words.{nowhere, key, mark, t_name, lit, under, open_paren, close_paren, open_brace, close_brace, dot}
+use Rattle.sl_parse_expr.proofs.Words.{nowhere, key, t_name, lit, close_paren, close_brace, dot}
 use Rattle.sl_parse_expr.proofs.Refusals.{or_left, or_right}
 use Rattle.sl_parse_expr.proofs.Ends.{closers, at_closers, chain_over}
 

@@ -1,12 +1,11 @@
 -- Choices by a test, and what absorbs what is held.
-use Rattle.std.proofs.Common.{◌≡◌, ℕ, zero, suc, ◌+◌, ◌≤◌, ◌<◌, Bool, true, false, List, [], ◌∷◌, ◌++◌, length, Option, Some, None, Ok, Err, refl, sym, ap, subst, ◌∙◌, append_assoc, arith, inl, inr, ◌⊎◌}
-use Rattle.std.specs.Prelude.{if◌then◌else◌, ◌&&◌}
-use Rattle.std.proofs.lemmas.List.{append-nil, length-append}
+use Rattle.std.proofs.Common.{◌≡◌, ℕ, ◌<◌, Bool, true, false, List, [], ◌∷◌, ◌++◌, length, Option, Some, refl, sym, ap, ◌∙◌, inl, inr, ◌⊎◌}
+use Rattle.std.specs.Prelude.{◌&&◌}
 use Rattle.sl_ast.specs.declared.token.Token.{Token}
 use Rattle.sl_parse_expr.specs.declared.ahead.Ahead.{Ahead}
 use Rattle.sl_parse_expr.specs.declared.ahead.Ahead.TheVariants as see
-use Rattle.sl_parse_expr.specs.Reading.{Stop, State, Outcome, Reader, and_then, ◌>>=◌, pure, head, seen, ahead, nothing, choose_by, by_ahead, choose, if_clean, option, absorb, fold, clean}
-use Rattle.sl_parse_expr.proofs.Theory.{Held, pends, stop, ok_of, err_of, ok_0, ok_1, ok_2, err_is, decide, Same, Completes, Takes, Stops, Good, needs, no_less, head_same, good_fold}
+use Rattle.sl_parse_expr.specs.Reading.{Stop, Reader, pure, head, seen, ahead, nothing, choose_by, by_ahead, choose, if_clean, option, absorb, fold, clean}
+use Rattle.sl_parse_expr.proofs.Theory.{Held, pends, ok_of, err_of, ok_0, ok_1, ok_2, decide, Completes, Takes, Stops, Good, needs, no_less, head_same, good_fold}
 
 keeps_head : (front ts r r' : List Token) → ts ≡ front ++ r → length r < length ts → head ts ≡ head (front ++ r')
 keeps_head [] ts r r' is l = absurd (no_less ts r is l)

@@ -1,13 +1,12 @@
 -- Before which tokens a rule is over, and that its loops and options are over there.
-use Rattle.std.proofs.Common.{◌≡◌, ℕ, Bool, true, false, List, [], ◌∷◌, refl}
-use Rattle.std.specs.Prelude.{◌&&◌, ◌||◌, if◌then◌else◌}
+use Rattle.std.proofs.Common.{◌≡◌, Bool, true, false, refl}
 use Rattle.sl_parse_expr.specs.declared.ahead.Ahead.{Ahead}
 use Rattle.sl_parse_expr.specs.declared.ahead.Ahead.TheVariants as see
 use Rattle.sl_parse_expr.specs.Ahead.{same}
 use Rattle.sl_parse_expr.specs.declared.chain.Chain.{Chain}
 use Rattle.sl_parse_expr.specs.declared.chain.Chain.TheVariants as chain
-use Rattle.sl_parse_expr.specs.Starts.{begins_expr, is_operator}
-use Rattle.sl_parse_expr.specs.Rules.{goes_chain, at_behind}
+use Rattle.sl_parse_expr.specs.Starts.{begins_expr}
+use Rattle.sl_parse_expr.specs.Rules.{goes_chain}
 
 -- of an expression
 abbrev pub closers : Ahead → Bool

@@ -1,11 +1,10 @@
 -- Each rule depends on the tokens that it takes and on the next one. A rule's proof repeats its definition.
-use Rattle.std.proofs.Common.{◌≡◌, ℕ, zero, suc, ◌+◌, ◌≤◌, Bool, true, false, List, [], ◌∷◌, ◌++◌, length, Option, Some, None, Ok, Err, refl, sym, ap, subst, ◌∙◌, arith, inl, inr, ◌⊎◌}
-use Rattle.std.specs.Prelude.{if◌then◌else◌, ◌&&◌, ◌||◌}
+use Rattle.std.proofs.Common.{◌≡◌, ℕ, Bool, true, false, List, [], ◌∷◌, ◌++◌, Option, Some, None, refl, sym, ap, subst, ◌∙◌, inl, inr, ◌⊎◌}
+use Rattle.std.specs.Prelude.{if◌then◌else◌}
 use lib.Utf8.{encode}
 use Rattle.sl_text.specs.declared.span.Span.{Span}
 use Rattle.sl_ast.specs.declared.token.Token.{Token}
 use Rattle.sl_ast.specs.declared.ident.Ident.{Ident}
-use Rattle.sl_ast.specs.declared.literal.Literal.{Literal}
 use Rattle.sl_ast.specs.declared.literal.Literal.TheVariants as literals
 use Rattle.sl_ast.specs.declared.operator.Operator.TheVariants as operators
 use Rattle.sl_ast.specs.declared.operator.Sign.TheVariants as signs
@@ -22,16 +21,16 @@ use Rattle.sl_parse_expr.specs.declared.cursor.Waiting.TheVariants as waiting
 use Rattle.sl_parse_expr.specs.declared.chain.Chain.{Chain}
 use Rattle.sl_parse_expr.specs.declared.chain.Chain.TheVariants as chain
 use Rattle.sl_parse_expr.specs.Ahead.{sort, same}
-use Rattle.sl_parse_expr.specs.Starts.{begins_sign, is_operator, begins_head, begins_expr, begins_binding, begins_stat}
+use Rattle.sl_parse_expr.specs.Starts.{begins_sign, begins_binding, begins_stat}
 use Rattle.sl_parse_expr.specs.Tokens.{ident_of, operator_of, sign_of, literal_of, binding_of, separator_of, separates}
 use Rattle.sl_parse_expr.specs.Trees.{par_args_tree, new_tree, super_tree, simple_tree, prefix_tree, operation_tree, infix_tree, if_tree, while_tree, try_tree, throw_tree, match_tree, assign_tree, local_tree, case_tree, cases_tree, block_tree, parens_tree, block_head, name_head, literal_head, this_head, select, apply, apply_block, applied_type, named_type, plain_expr, expr_stat}
-use Rattle.sl_parse_expr.specs.Reading.{Reader, and_then, ◌>>=◌, ◌>>◌, pure, stuck, one, expect, hold, absorb, look, choose, option, fold, clean, waits, nothing, ahead}
-use Rattle.sl_parse_expr.specs.Rules.{added, name, operator, sign, literal, binding, separator, applied, type_tree, at_line, one_more, lines, at_comma, at_bar, at_operator, at_case, first_chain, goes_chain, at_suffix, add_suffix, at_item, add_item, semi_from, line_from, at_behind, next_arg, more_args, some_args, no_args, par_args, typed, local, expr_as_stat, stat, apart, stat_item, block_item, stats, block, braces, literal_start, name_start, this_start, super_start, new_args, new_start, nothing_inside, expr_inside, parens_start, block_start, start, selection, call, block_call, behind_line, line_call, suffix, suffixes, simple, signed, unsigned, prefix, line_operand, operand, operation, operations, infix_expr, guarded, case_reader, more_cases, cases, with_else, third, third_by, second, second_by, other, other_by, condition, if_expr, while_expr, handler, finalizer, try_expr, throw_expr, match_behind, assign_behind, behind_infix, plain, any}
-use Rattle.sl_parse_expr.proofs.Theory.{Good, Stops, At, Completes, Meets, needs, always, good_one, good_look, good_fold, good_sub, good_up, bind, give, map, at_hold, at_left, at_stuck, ok_of, err_of, stop, err_is, decide, pends, good_option}
+use Rattle.sl_parse_expr.specs.Reading.{Reader, ◌>>◌, pure, stuck, expect, hold, absorb, option, waits}
+use Rattle.sl_parse_expr.specs.Rules.{added, name, operator, sign, literal, binding, separator, applied, type_tree, at_line, one_more, lines, at_comma, at_operator, at_case, first_chain, goes_chain, at_suffix, add_suffix, at_item, add_item, semi_from, line_from, at_behind, next_arg, more_args, some_args, no_args, par_args, typed, local, expr_as_stat, stat, apart, stat_item, block_item, stats, block, braces, literal_start, name_start, this_start, super_start, new_args, new_start, nothing_inside, expr_inside, parens_start, block_start, start, selection, call, block_call, behind_line, line_call, suffix, suffixes, simple, signed, unsigned, prefix, line_operand, operand, operation, operations, infix_expr, guarded, case_reader, more_cases, cases, with_else, third, third_by, second, second_by, other, other_by, condition, if_expr, while_expr, handler, finalizer, try_expr, throw_expr, match_behind, assign_behind, behind_infix, plain, any}
+use Rattle.sl_parse_expr.proofs.Theory.{Good, At, Completes, always, good_one, good_look, bind, map, at_hold, at_left, at_stuck, good_option}
 use Rattle.sl_parse_expr.proofs.Choices.{good_absorb, good_loop, both_false}
 use Rattle.sl_parse_expr.proofs.Shorter.{tk, last, pick, else_pick, perhaps, fewer}
-use Rattle.sl_parse_expr.proofs.Words.{nowhere, key, mark, t_name, t_line, t_minus, t_bar, lit, under, open_paren, close_paren, open_bracket, close_bracket, open_brace, close_brace, comma, semi, dot}
-use Rattle.sl_parse_expr.proofs.Ends.{closers, arrows, brace, starts, no_bracket, at_closers, at_arrows, at_brace, not_bracket, not_line}
+use Rattle.sl_parse_expr.proofs.Words.{nowhere, key, mark, t_name, t_line, t_minus, lit, under, open_paren, close_paren, open_bracket, close_bracket, open_brace, close_brace, comma, semi, dot}
+use Rattle.sl_parse_expr.proofs.Ends.{closers, arrows, brace, starts, no_bracket, at_closers, at_brace, not_bracket, not_line}
 
 -- ---- single tokens
 

@@ -1,12 +1,12 @@
 -- Where nothing may nest any more.
-use Rattle.std.proofs.Common.{◌≡◌, ℕ, zero, suc, ◌+◌, ◌≤◌, Bool, true, false, List, [], ◌∷◌, ◌++◌, Option, Some, None, Ok, Err, refl, sym, ap, subst, ◌∙◌, inl, inr, ◌⊎◌, arith}
+use Rattle.std.proofs.Common.{◌≡◌, ℕ, zero, suc, ◌+◌, ◌≤◌, Bool, true, false, List, [], ◌∷◌, ◌++◌, Option, Some, refl, sym, ap, ◌∙◌, inl, inr, ◌⊎◌, arith}
 use Rattle.std.specs.Prelude.{◌&&◌}
 use Rattle.sl_ast.specs.declared.token.Token.{Token}
 use Rattle.sl_parse_expr.specs.declared.ahead.Ahead.{Ahead}
 use Rattle.sl_parse_expr.specs.declared.ahead.Ahead.TheVariants as see
 use Rattle.sl_parse_expr.specs.Ahead.{sort}
 use Rattle.sl_parse_expr.specs.Reading.{Stop, State, Reader, head, seen, ahead, nothing}
-use Rattle.sl_parse_expr.proofs.Theory.{Held, Good, Stops, Completes, stop, ok_of, err_of, err_is, decide}
+use Rattle.sl_parse_expr.proofs.Theory.{Held, Good, Stops, Completes, stop, ok_of, err_of, err_is}
 
 module _ {A : Type 0} (ends : Ahead → Bool) (w : List Token) (begins : Ahead → Bool) (P : ℕ → Reader A)
     (zero_is : (st : State) → P 0 st ≡ err_of (stop (begins (ahead st.1) && nothing st.0) st.1))

@@ -1,19 +1,19 @@
 -- Each level depends on the tokens that it takes and on the next one; deeper levels agree with it on what is not too
 -- deep; and what stops it can be completed.
-use Rattle.std.proofs.Common.{◌≡◌, ℕ, zero, suc, ◌+◌, ◌≤◌, Bool, true, false, List, [], ◌∷◌, ◌++◌, refl, ◌∙◌, arith}
+use Rattle.std.proofs.Common.{◌≡◌, ℕ, zero, suc, ◌+◌, ◌≤◌, true, List, [], ◌∷◌, ◌++◌, refl, arith}
 use Rattle.sl_ast.specs.declared.token.Token.{Token}
 use Rattle.sl_ast.specs.declared.expr.Expr.{Expr}
 use Rattle.sl_ast.specs.declared.pattern.Pattern.{Pattern}
 use Rattle.sl_parse_expr.specs.Ahead.{sort}
 use Rattle.sl_parse_expr.specs.Starts.{begins_expr}
-use Rattle.sl_parse_expr.specs.Reading.{Reader, ahead, State}
+use Rattle.sl_parse_expr.specs.Reading.{ahead}
 use Rattle.sl_parse_expr.specs.Rules.{any, too_deep}
 use Rattle.sl_parse_expr.specs.PatternRules.{any_pattern, pattern, begins_pattern}
 use Rattle.sl_parse_expr.specs.Levels.{expr}
 use Rattle.sl_parse_expr.proofs.Theory.{Good, good_up, ok_of}
 use Rattle.sl_parse_expr.proofs.Words.{lit, under}
 use Rattle.sl_parse_expr.proofs.Ends.{closers, arrows}
-use Rattle.sl_parse_expr.proofs.Refusals.{Refuses, held_any, held_pattern, no_any, no_pattern}
+use Rattle.sl_parse_expr.proofs.Refusals.{held_any, held_pattern, no_any, no_pattern}
 use Rattle.sl_parse_expr.proofs.Begun.{reads_lit, lit_tree}
 use Rattle.sl_parse_expr.proofs.Wholes.{begun, word_of}
 use Rattle.sl_parse_expr.proofs.PatternBegun.{reads_under, begun_pattern, pattern_word, under_tree}

@@ -1,12 +1,12 @@
 -- A loop that reads items as long as one begins, and adds each to what it found.
-use Rattle.std.proofs.Common.{◌≡◌, ℕ, suc, ◌-◌, arith, ◌<◌, Bool, true, false, List, [], ◌∷◌, ◌++◌, length, Ok, Err, refl, sym, ap, ◌∙◌, inl, inr}
+use Rattle.std.proofs.Common.{◌≡◌, ℕ, suc, ◌-◌, arith, ◌<◌, Bool, true, false, List, length, Ok, Err, ap, ◌∙◌}
 use Rattle.sl_ast.specs.declared.token.Token.{Token}
 use Rattle.sl_parse_expr.specs.declared.ahead.Ahead.{Ahead}
 use Rattle.sl_parse_expr.specs.declared.ahead.Ahead.TheVariants as see
 use Rattle.sl_parse_expr.specs.declared.stopped.Stopped.{Stopped}
 use Rattle.sl_parse_expr.specs.declared.stopped.Stopped.TheVariants as stopped
 use Rattle.sl_parse_expr.specs.Reading.{Reads, Stop, State, Outcome, Reader, ahead, fold, clean, nothing}
-use Rattle.sl_parse_expr.proofs.Theory.{Good, needs, stop, ok_of, err_of, fold_goes, fold_stays, fold_fails}
+use Rattle.sl_parse_expr.proofs.Theory.{Good, needs, fold_goes, fold_stays, fold_fails}
 use Rattle.sl_parse_expr.proofs.Choices.{both_false}
 
 pub record Eats {A : Type 0} (q : Reader A) : Type 0 where

@@ -1,9 +1,6 @@
 -- Each token that begins a pattern is continued, over a reader that reads `_`.
-use Rattle.std.proofs.Common.{◌≡◌, ℕ, zero, suc, Bool, true, false, List, [], ◌∷◌, ◌++◌, Option, Some, None, Ok, Err, refl, sym, ap, ◌∙◌}
-use Rattle.std.specs.Prelude.{if◌then◌else◌, ◌&&◌, ◌||◌}
-use lib.Utf8.{encode}
+use Rattle.std.proofs.Common.{◌≡◌, Bool, true, false, List, [], ◌∷◌, ◌++◌, Some, refl, ap, ◌∙◌}
 use Rattle.sl_ast.specs.declared.token.Token.{Token}
-use Rattle.sl_ast.specs.declared.ident.Ident.{Ident}
 use Rattle.sl_ast.specs.declared.literal.Literal.TheVariants as literals
 use Rattle.sl_ast.specs.declared.pattern.Pattern.{Pattern}
 use Rattle.sl_ast.specs.declared.pattern.Pat.{Pat}
@@ -12,9 +9,9 @@ use Rattle.sl_parse_expr.specs.declared.ahead.Ahead.TheVariants as see
 use Rattle.sl_parse_expr.specs.Ahead.{sort, same}
 use Rattle.sl_parse_expr.specs.Tokens.{ident_of, literal_of}
 use Rattle.sl_parse_expr.specs.PatternTrees.{any_tree, literal_tree, minus_tree, name_tree, inside_tree, simple_as_pat, pattern_tree}
-use Rattle.sl_parse_expr.specs.Reading.{Reader, State, and_then, ◌>>=◌, pure, one, ahead, nothing, expect, choose, option, fold, clean}
+use Rattle.sl_parse_expr.specs.Reading.{Reader, ahead, nothing, choose, clean}
 use Rattle.sl_parse_expr.specs.Rules.{added, name, literal, at_bar}
-use Rattle.sl_parse_expr.specs.PatternRules.{begins_pattern, inside, minus, no_minus, closed, at_name, behind_name, by_name, by_underscore, by_itself, of_type, alternative, next_alternative, more_alternatives, any_pattern}
+use Rattle.sl_parse_expr.specs.PatternRules.{begins_pattern, inside, minus, no_minus, closed, at_name, by_name, by_underscore, by_itself, alternative, next_alternative, more_alternatives, any_pattern}
 use Rattle.sl_parse_expr.proofs.Theory.{ok_of, fold_stays}
 use Rattle.sl_parse_expr.proofs.Choices.{both_false}
 use Rattle.sl_parse_expr.proofs.Words.{nowhere, key, mark, lit, under, close_paren}

@@ -1,23 +1,20 @@
 -- Each rule of patterns depends on the tokens that it takes and on the next one.
-use Rattle.std.proofs.Common.{◌≡◌, ℕ, zero, suc, Bool, true, false, List, [], ◌∷◌, ◌++◌, Option, Some, None, refl}
-use Rattle.std.specs.Prelude.{if◌then◌else◌, ◌&&◌, ◌||◌}
+use Rattle.std.proofs.Common.{◌≡◌, ℕ, true, false, List, [], ◌∷◌, refl}
 use lib.Utf8.{encode}
-use Rattle.sl_text.specs.declared.span.Span.{Span}
 use Rattle.sl_ast.specs.declared.ident.Ident.{Ident}
 use Rattle.sl_ast.specs.declared.pattern.Pattern.{Pattern}
 use Rattle.sl_ast.specs.declared.pattern.Wildcard.{Wildcard}
 use Rattle.sl_ast.specs.declared.pattern.Wildcard.TheVariants as wildcard
-use Rattle.sl_parse_expr.specs.declared.ahead.Ahead.{Ahead}
 use Rattle.sl_parse_expr.specs.declared.ahead.Ahead.TheVariants as see
 use Rattle.sl_parse_expr.specs.Ahead.{sort, same}
-use Rattle.sl_parse_expr.specs.Reading.{Reader, ◌>>=◌, ◌>>◌, pure, expect, choose, option}
-use Rattle.sl_parse_expr.specs.Rules.{added, name, literal, type_tree, at_comma, at_bar}
+use Rattle.sl_parse_expr.specs.Reading.{Reader}
+use Rattle.sl_parse_expr.specs.Rules.{added, at_comma, at_bar}
 use Rattle.sl_parse_expr.specs.PatternTrees.{typed_tree, named_tree, any_tree, literal_tree, minus_tree, name_tree, constructor_tree, inside_tree, simple_as_pat, pattern_tree}
 use Rattle.sl_parse_expr.specs.PatternRules.{next_part, more_parts, some_parts, no_parts, constructor, inside, minus, no_minus, closed, anything, called, simple_pattern, of_type, bound, built, at_name, behind_name, by_name, by_underscore, by_itself, alternative, next_alternative, more_alternatives, any_pattern}
-use Rattle.sl_parse_expr.proofs.Theory.{Good, always, bind, give, map}
+use Rattle.sl_parse_expr.proofs.Theory.{Good, bind, map}
 use Rattle.sl_parse_expr.proofs.Choices.{good_loop}
 use Rattle.sl_parse_expr.proofs.Shorter.{tk, last, pick, else_pick, perhaps, fewer}
-use Rattle.sl_parse_expr.proofs.Words.{key, mark, t_name, t_minus, t_bar, lit, under, open_paren, close_paren, comma}
+use Rattle.sl_parse_expr.proofs.Words.{mark, t_name, t_minus, t_bar, lit, under, open_paren, close_paren, comma}
 use Rattle.sl_parse_expr.proofs.Ends.{arrows, no_bracket, at_arrows}
 use Rattle.sl_parse_expr.proofs.Good.{good_name, good_literal, good_type}
 

@@ -1,6 +1,6 @@
 -- What no reader of expressions or patterns takes: what begins none, and what stands behind something held.
-use Rattle.std.proofs.Common.{◌≡◌, ℕ, zero, suc, Bool, true, false, List, [], ◌∷◌, ◌++◌, Option, Some, None, Ok, Err, refl, sym, ap, ◌∙◌, inl, inr, ◌⊎◌}
-use Rattle.std.specs.Prelude.{if◌then◌else◌, ◌&&◌, ◌||◌}
+use Rattle.std.proofs.Common.{◌≡◌, Bool, true, false, List, [], ◌∷◌, Option, None, refl, ap, inl, inr}
+use Rattle.std.specs.Prelude.{◌||◌}
 use Rattle.sl_text.specs.declared.span.Span.{Span}
 use Rattle.sl_ast.specs.declared.token.Token.{Token}
 use Rattle.sl_ast.specs.declared.token.TokenKind.{TokenKind}
@@ -16,10 +16,10 @@ use Rattle.sl_parse_expr.specs.declared.ahead.Ahead.{Ahead}
 use Rattle.sl_parse_expr.specs.declared.ahead.Ahead.TheVariants as see
 use Rattle.sl_parse_expr.specs.Ahead.{sort, same, of_shape, of_kind}
 use Rattle.sl_parse_expr.specs.Starts.{begins_sign, begins_head, begins_expr}
-use Rattle.sl_parse_expr.specs.Reading.{Stop, State, Outcome, Reader, and_then, ◌>>=◌, ahead, one, one_by, given, word, expect, choose, by_ahead}
-use Rattle.sl_parse_expr.specs.Rules.{name, sign, literal, no_args, par_args, block_start, braces, literal_start, name_start, this_start, super_start, new_start, parens_start, start, simple, signed, unsigned, prefix, infix_expr, if_expr, while_expr, try_expr, throw_expr, plain, any}
+use Rattle.sl_parse_expr.specs.Reading.{State, Outcome, Reader, and_then, ◌>>=◌, ahead, one, given, word, expect, choose}
+use Rattle.sl_parse_expr.specs.Rules.{name, sign, literal, block_start, braces, literal_start, name_start, this_start, super_start, new_start, parens_start, start, simple, signed, unsigned, prefix, infix_expr, if_expr, while_expr, try_expr, throw_expr, plain, any}
 use Rattle.sl_parse_expr.specs.PatternRules.{begins_pattern, inside, minus, no_minus, closed, by_name, by_underscore, by_itself, alternative, any_pattern}
-use Rattle.sl_parse_expr.proofs.Theory.{ok_of, err_of, stop, decide}
+use Rattle.sl_parse_expr.proofs.Theory.{err_of, stop, decide}
 
 pub or_left : (a b : Bool) → (a || b) ≡ false → a ≡ false
 or_left true b h = absurd cc

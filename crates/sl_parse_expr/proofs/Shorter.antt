@@ -1,9 +1,8 @@
 -- The combinators with the parts left out that can be read off.
-use Rattle.std.proofs.Common.{◌≡◌, ℕ, Bool, true, false, List, [], ◌∷◌, ◌++◌, Option, Some, None, refl}
-use Rattle.sl_text.specs.declared.span.Span.{Span}
+use Rattle.std.proofs.Common.{◌≡◌, ℕ, Bool, true, false, List, [], ◌∷◌, Some, refl}
 use Rattle.sl_ast.specs.declared.token.Token.{Token}
 use Rattle.sl_parse_expr.specs.declared.ahead.Ahead.{Ahead}
-use Rattle.sl_parse_expr.specs.Reading.{Reader, pure, one, expect, word, ahead, choose, option}
+use Rattle.sl_parse_expr.specs.Reading.{Reader, expect, word, ahead, choose, option}
 use Rattle.sl_parse_expr.proofs.Theory.{Good, always, needs, good_one, good_sub}
 use Rattle.sl_parse_expr.proofs.Choices.{good_left, good_right, good_option}
 

@@ -1,12 +1,12 @@
 -- How a family of readers, one for each depth, depends on the tokens: on those that it takes and on the next one; and how what it stopped in can be completed.
-use Rattle.std.proofs.Common.{◌≡◌, ℕ, zero, suc, ◌+◌, ◌≤◌, ◌<◌, Bool, true, false, List, [], ◌∷◌, ◌++◌, length, Option, Some, None, Result, Ok, Err, refl, sym, ap, subst, ◌∙◌, append_assoc, arith, inl, inr, ◌⊎◌}
-use Rattle.std.specs.Prelude.{if◌then◌else◌, ◌&&◌}
+use Rattle.std.proofs.Common.{◌≡◌, ℕ, zero, suc, ◌+◌, ◌≤◌, ◌<◌, Bool, true, false, List, [], ◌∷◌, ◌++◌, length, Option, Some, None, Ok, Err, refl, sym, ap, subst, ◌∙◌, append_assoc, arith, inl, inr, ◌⊎◌}
+use Rattle.std.specs.Prelude.{if◌then◌else◌}
 use Rattle.std.proofs.lemmas.List.{append-nil, length-append}
 use Rattle.sl_ast.specs.declared.token.Token.{Token}
 use Rattle.sl_parse_expr.specs.declared.ahead.Ahead.{Ahead}
 use Rattle.sl_parse_expr.specs.declared.ahead.Ahead.TheVariants as see
 use Rattle.sl_parse_expr.specs.Ahead.{sort}
-use Rattle.sl_parse_expr.specs.Reading.{Stop, State, Outcome, Reader, and_then, ◌>>=◌, pure, stuck, head, seen, ahead, rest, first, nothing, hold, look, choose, option, one, one_by, given, absorb, shorter, fold, fold_from}
+use Rattle.sl_parse_expr.specs.Reading.{Stop, State, Outcome, Reader, and_then, ◌>>=◌, pure, stuck, head, seen, ahead, rest, first, hold, look, one, one_by, given, shorter, fold, fold_from}
 
 abbrev pub Held : Type 0
 Held = List Token

@@ -1,20 +1,18 @@
 -- Each token that begins an expression is continued, over a reader that reads `null`.
-use Rattle.std.proofs.Common.{◌≡◌, ℕ, zero, suc, Bool, true, false, List, [], ◌∷◌, ◌++◌, Option, Some, None, Ok, Err, refl, sym, ap, ◌∙◌}
-use Rattle.std.specs.Prelude.{if◌then◌else◌, ◌&&◌, ◌||◌}
-use Rattle.sl_text.specs.declared.span.Span.{Span}
+use Rattle.std.proofs.Common.{◌≡◌, Bool, true, false, List, [], ◌∷◌, ◌++◌, Option, None, refl, ap, ◌∙◌}
 use Rattle.sl_ast.specs.declared.token.Token.{Token}
 use Rattle.sl_ast.specs.declared.expr.Expr.{Expr}
 use Rattle.sl_ast.specs.declared.pattern.Pattern.{Pattern}
 use Rattle.sl_parse_expr.specs.declared.ahead.Ahead.{Ahead}
 use Rattle.sl_parse_expr.specs.declared.ahead.Ahead.TheVariants as see
 use Rattle.sl_parse_expr.specs.Ahead.{sort, same}
-use Rattle.sl_parse_expr.specs.Starts.{begins_sign, begins_head, begins_expr}
+use Rattle.sl_parse_expr.specs.Starts.{begins_expr}
 use Rattle.sl_parse_expr.specs.Trees.{if_tree, while_tree, try_tree, throw_tree}
-use Rattle.sl_parse_expr.specs.Reading.{Reader, State, and_then, ◌>>=◌, pure, ahead, nothing, expect, choose, option, fold, clean}
-use Rattle.sl_parse_expr.specs.Rules.{at_line, one_more, lines, condition, other, other_by, if_expr, while_expr, try_expr, throw_expr, plain, any, handler, finalizer}
+use Rattle.sl_parse_expr.specs.Reading.{Reader, pure, ahead, nothing, expect, choose, clean}
+use Rattle.sl_parse_expr.specs.Rules.{at_line, one_more, lines, condition, other, other_by, if_expr, while_expr, try_expr, throw_expr, plain, any}
 use Rattle.sl_parse_expr.proofs.Theory.{ok_of, fold_stays}
 use Rattle.sl_parse_expr.proofs.Choices.{both_false}
-use Rattle.sl_parse_expr.proofs.Words.{nowhere, key, t_name, lit, open_paren, close_paren, close_brace, dot}
+use Rattle.sl_parse_expr.proofs.Words.{key, t_name, lit, open_paren, close_paren, close_brace, dot}
 use Rattle.sl_parse_expr.proofs.Ends.{closers, at_closers}
 use Rattle.sl_parse_expr.proofs.Begun.{skip, enter, word_reads, lit_tree, Whole, by_head, by_sign, head_literal, head_name, head_this, head_super, head_new, head_paren, head_brace}
 

@@ -1,5 +1,5 @@
 -- What a rule of the grammar sees of the next token.
-use Rattle.std.specs.Prelude.{◌==◌, ℕ, Bool, true, false, ◌||◌, List, [], ◌∷◌, if◌then◌else◌, encode_utf8_all}
+use Rattle.std.specs.Prelude.{◌==◌, ℕ, Bool, ◌||◌, List, [], ◌∷◌, if◌then◌else◌, encode_utf8_all}
 use Rattle.sl_ast.specs.declared.token.Token.{Token}
 use Rattle.sl_ast.specs.declared.token.TokenKind.{TokenKind}
 use Rattle.sl_ast.specs.declared.token.TokenKind.TheVariants as kind

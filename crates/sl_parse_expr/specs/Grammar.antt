@@ -23,9 +23,7 @@ use Rattle.sl_ast.specs.declared.cases.Cases.{Cases}
 use Rattle.sl_ast.specs.declared.pattern.Pattern.{Pattern}
 use Rattle.sl_ast.specs.declared.pattern.Pat.{Pat}
 use Rattle.sl_ast.specs.declared.pattern.PatS.{PatS}
-use Rattle.sl_ast.specs.declared.pattern.Wildcard.{Wildcard}
 use Rattle.sl_ast.specs.declared.pattern.Wildcard.TheVariants as wildcard
-use Rattle.sl_parse_expr.specs.declared.ahead.Ahead.{Ahead}
 use Rattle.sl_parse_expr.specs.declared.ahead.Ahead.TheVariants as see
 use Rattle.sl_parse_expr.specs.Ahead.{same}
 use Rattle.sl_parse_expr.specs.Reading.{ahead, rest}
@@ -33,7 +31,7 @@ use Rattle.sl_parse_expr.specs.Tokens.{ident_of, operator_of, sign_of, literal_o
 use Rattle.sl_parse_expr.specs.Spans.{join}
 use Rattle.sl_parse_expr.specs.Trees.{par_args_tree, new_tree, super_tree, simple_tree, prefix_tree, operation_tree, infix_tree, if_tree, while_tree, try_tree, throw_tree, match_tree, assign_tree, local_tree, case_tree, cases_tree, block_tree, parens_tree, block_head, name_head, literal_head, this_head, select, apply, apply_block, applied_type, named_type, plain_expr, expr_stat}
 use Rattle.sl_parse_expr.specs.PatternTrees.{typed_tree, named_tree, any_tree, literal_tree, minus_tree, name_tree, constructor_tree, inside_tree, simple_as_pat, pattern_tree}
-use Rattle.sl_parse_expr.specs.Starts.{begins_stat, begins_sign, is_operator}
+use Rattle.sl_parse_expr.specs.Starts.{begins_stat, is_operator}
 use Rattle.sl_parse_expr.specs.Phrases.{IsOne, IsWord, IsMore, IsListed, IsOption, IsLines, IsLine, IsSemi, IsSeq}
 
 abbrev pub IsName : Ident → List Token → List Token → Type 0

@@ -1,5 +1,5 @@
 -- Function values that read expressions or patterns to a depth.
-use Rattle.std.specs.Prelude.{ℕ, Result, List}
+use Rattle.std.specs.Prelude.{ℕ, Result}
 use Rattle.std.specs.declared.alloc.Global.{Global}
 use denote.Ref.{MutBor}
 use Rattle.sl_parse_expr.specs.declared.stopped.Stopped.{Stopped}

@@ -1,11 +1,11 @@
 -- Trees of patterns with the places where they stand.
-use Rattle.std.specs.Prelude.{ℕ, Bool, true, false, List, [], ◌∷◌, Option, Some, None}
+use Rattle.std.specs.Prelude.{true, false, List, Some, None}
 use Rattle.sl_text.specs.declared.span.Span.{Span}
 use Rattle.sl_ast.specs.declared.ident.Ident.{Ident}
 use Rattle.sl_ast.specs.declared.literal.Literal.{Literal}
 use Rattle.sl_ast.specs.declared.type_tree.TypeTree.{TypeTree}
 use Rattle.sl_ast.specs.declared.type_tree.TypeTree.TheVariants as types
-use Rattle.sl_ast.specs.declared.pattern.Pattern.{Pattern, roll-Pattern, out-Pattern}
+use Rattle.sl_ast.specs.declared.pattern.Pattern.{Pattern, roll-Pattern}
 use Rattle.sl_ast.specs.declared.pattern.Pat.{Pat, out-Pat}
 use Rattle.sl_ast.specs.declared.pattern.Pat.TheVariants as pat
 use Rattle.sl_ast.specs.declared.pattern.PatS.{PatS, out-PatS}
@@ -13,7 +13,7 @@ use Rattle.sl_ast.specs.declared.pattern.PatS.TheVariants as pats
 use Rattle.sl_ast.specs.declared.pattern.Pat.TheOpen.{Pat-F, PatS-F}
 use Rattle.sl_ast.specs.declared.pattern.Wildcard.{Wildcard}
 use Rattle.sl_ast.specs.declared.pattern.Wildcard.TheVariants as wildcard
-use Rattle.sl_parse_expr.specs.Spans.{join, literal_span, span_or, last_span}
+use Rattle.sl_parse_expr.specs.Spans.{join, literal_span, last_span}
 
 abbrev pub type_by : TypeTree → Span
 type_by (types.Name x) = x.span

@@ -1,5 +1,5 @@
 -- The rules as readers.
-use Rattle.std.specs.Prelude.{ℕ, zero, suc, Bool, true, false, ◌&&◌, ◌||◌, List, [], ◌∷◌, ◌++◌, Option, Some, None, Result, Ok, Err, if◌then◌else◌}
+use Rattle.std.specs.Prelude.{Bool, true, false, ◌&&◌, ◌||◌, List, [], ◌∷◌, ◌++◌, Option, Some, None, Err, if◌then◌else◌}
 use Rattle.sl_text.specs.declared.span.Span.{Span}
 use Rattle.sl_ast.specs.declared.token.Token.{Token}
 use Rattle.sl_ast.specs.declared.ident.Ident.{Ident}
@@ -8,7 +8,6 @@ use Rattle.sl_ast.specs.declared.operator.Operator.{Operator}
 use Rattle.sl_ast.specs.declared.operator.Sign.{Sign}
 use Rattle.sl_ast.specs.declared.binding.Binding.{Binding}
 use Rattle.sl_ast.specs.declared.type_tree.TypeTree.{TypeTree}
-use Rattle.sl_ast.specs.declared.type_tree.TypeTree.TheVariants as types
 use Rattle.sl_ast.specs.declared.expr.Expr.{Expr}
 use Rattle.sl_ast.specs.declared.infix.Infix.{Infix}
 use Rattle.sl_ast.specs.declared.infix.Operation.{Operation}
@@ -22,9 +21,6 @@ use Rattle.sl_ast.specs.declared.block.Stat.{Stat}
 use Rattle.sl_ast.specs.declared.cases.Case.{Case}
 use Rattle.sl_ast.specs.declared.cases.Cases.{Cases}
 use Rattle.sl_ast.specs.declared.pattern.Pattern.{Pattern}
-use Rattle.sl_ast.specs.declared.pattern.Pat.{Pat}
-use Rattle.sl_ast.specs.declared.pattern.PatS.{PatS}
-use Rattle.sl_ast.specs.declared.pattern.Wildcard.{Wildcard}
 use Rattle.sl_parse_expr.specs.declared.ahead.Ahead.{Ahead}
 use Rattle.sl_parse_expr.specs.declared.ahead.Ahead.TheVariants as see
 use Rattle.sl_parse_expr.specs.declared.cursor.Waiting.{Waiting}
@@ -33,8 +29,8 @@ use Rattle.sl_parse_expr.specs.declared.chain.Chain.{Chain}
 use Rattle.sl_parse_expr.specs.declared.chain.Chain.TheVariants as chain
 use Rattle.sl_parse_expr.specs.Ahead.{same}
 use Rattle.sl_parse_expr.specs.Tokens.{ident_of, operator_of, sign_of, literal_of, binding_of, separator_of, separates}
-use Rattle.sl_parse_expr.specs.Starts.{begins_sign, is_operator, begins_head, begins_expr, begins_binding, begins_stat}
-use Rattle.sl_parse_expr.specs.Reading.{Reader, ◌>>=◌, ◌>>◌, pure, stuck, one, expect, hold, absorb, look, choose_by, by_ahead, choose, option, fold, clean, waits, nothing, ahead}
+use Rattle.sl_parse_expr.specs.Starts.{begins_sign, is_operator, begins_binding, begins_stat}
+use Rattle.sl_parse_expr.specs.Reading.{Reader, ◌>>=◌, ◌>>◌, pure, stuck, one, expect, hold, absorb, look, choose, option, fold, clean, waits, nothing, ahead}
 use Rattle.sl_parse_expr.specs.Trees.{par_args_tree, new_tree, super_tree, simple_tree, prefix_tree, operation_tree, infix_tree, if_tree, while_tree, try_tree, throw_tree, match_tree, assign_tree, local_tree, case_tree, cases_tree, block_tree, parens_tree, block_head, name_head, literal_head, this_head, select, apply, apply_block, applied_type, named_type, plain_expr, expr_stat}
 use Rattle.sl_parse_expr.specs.Spans.{join}
 

@@ -1,8 +1,8 @@
 -- Where trees stand.
-use Rattle.std.specs.Prelude.{ℕ, ◌-◌, List, Option, Some, None, length, slice_get}
+use Rattle.std.specs.Prelude.{◌-◌, List, Option, Some, None, length, slice_get}
 use Rattle.sl_text.specs.declared.span.Span.{Span}
 use Rattle.sl_ast.specs.declared.expr.Expr.{Expr, out-Expr}
-use Rattle.sl_ast.specs.declared.args.Args.{Args, out-Args}
+use Rattle.sl_ast.specs.declared.args.Args.{out-Args}
 use Rattle.sl_ast.specs.declared.args.ParArgs.{ParArgs, out-ParArgs}
 use Rattle.sl_ast.specs.declared.simple.Head.{Head, out-Head}
 use Rattle.sl_ast.specs.declared.simple.Suffix.{Suffix, out-Suffix}
@@ -15,8 +15,6 @@ use Rattle.sl_ast.specs.declared.block.Stat.{Stat, out-Stat}
 use Rattle.sl_ast.specs.declared.block.Block.{Block, out-Block}
 use Rattle.sl_ast.specs.declared.literal.Literal.{Literal}
 use Rattle.sl_ast.specs.declared.literal.Literal.TheVariants as literal
-use Rattle.sl_ast.specs.declared.type_tree.TypeTree.{TypeTree}
-use Rattle.sl_ast.specs.declared.type_tree.TypeTree.TheVariants as types
 
 -- from the first character of one to the last of another
 abbrev pub join : Span → Span → Span

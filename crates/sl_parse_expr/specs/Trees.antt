@@ -1,5 +1,5 @@
 -- Trees with the places where they stand: from the first token to the end of the last one.
-use Rattle.std.specs.Prelude.{ℕ, Bool, List, [], ◌∷◌, Option, Some, None}
+use Rattle.std.specs.Prelude.{List, Option, Some, None}
 use Rattle.sl_text.specs.declared.span.Span.{Span}
 use Rattle.sl_ast.specs.declared.ident.Ident.{Ident}
 use Rattle.sl_ast.specs.declared.literal.Literal.{Literal}
@@ -11,14 +11,13 @@ use Rattle.sl_ast.specs.declared.type_tree.TypeTree.TheVariants as types
 use Rattle.sl_ast.specs.declared.expr.Expr.{Expr}
 use Rattle.sl_ast.specs.declared.expr.Expr.TheVariants as expr
 use Rattle.sl_ast.specs.declared.infix.Infix.{Infix, roll-Infix}
-use Rattle.sl_ast.specs.declared.infix.Operation.{Operation, roll-Operation, out-Operation}
+use Rattle.sl_ast.specs.declared.infix.Operation.{Operation, roll-Operation}
 use Rattle.sl_ast.specs.declared.infix.Prefix.{Prefix, roll-Prefix}
 use Rattle.sl_ast.specs.declared.simple.Simple.{Simple, roll-Simple}
 use Rattle.sl_ast.specs.declared.simple.Head.{Head}
 use Rattle.sl_ast.specs.declared.simple.Head.TheVariants as head
 use Rattle.sl_ast.specs.declared.simple.Suffix.{Suffix}
 use Rattle.sl_ast.specs.declared.simple.Suffix.TheVariants as suffix
-use Rattle.sl_ast.specs.declared.args.Args.{Args}
 use Rattle.sl_ast.specs.declared.args.Args.TheVariants as args
 use Rattle.sl_ast.specs.declared.args.ParArgs.{ParArgs, roll-ParArgs}
 use Rattle.sl_ast.specs.declared.block.Block.{Block, roll-Block}

@@ -1,8 +1,7 @@
-use Rattle.std.proofs.Common.{◌≡◌, length, List, [], true, false}
+use Rattle.std.proofs.Common.{◌≡◌, length}
 use Rattle.sl_parse_expr.specs.declared.ahead.Ahead.TheVariants as see
 use Rattle.sl_parse_expr.specs.Reading.{fold, clean, expect}
 use Rattle.sl_parse_expr.specs.Rules.{lines, at_line, one_more}
-use Rattle.sl_parse_expr.proofs.Good.{newline}
 use Rattle.sl_parse_expr.proofs.tokens.lines.Given as goal
 
 abbrev pub invariant-turn : goal.invariant-turn

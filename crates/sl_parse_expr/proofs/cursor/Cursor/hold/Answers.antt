@@ -1,5 +1,4 @@
-use Rattle.std.proofs.Common.{rules, ◌≡◌, ◌++◌, arith, ◌+◌, suc, ap, sym, ◌∙◌, List, take, drop, ℕ, refl}
-use Rattle.sl_ast.specs.declared.token.Token.{Token}
+use Rattle.std.proofs.Common.{rules, ◌≡◌, ◌++◌, arith, ◌+◌, suc, ap, ◌∙◌, take, drop, ℕ}
 use Rattle.sl_parse_expr.specs.Reading.{first, rest}
 use Rattle.sl_parse_expr.proofs.Slices.{take_more, drop_more}
 use Rattle.sl_parse_expr.proofs.cursor.Cursor.hold.Goals as goal

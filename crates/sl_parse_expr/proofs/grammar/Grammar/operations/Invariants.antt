@@ -1,11 +1,8 @@
-use Rattle.std.proofs.Common.{◌≡◌, length, List, [], true, false}
-use Rattle.sl_parse_expr.specs.declared.ahead.Ahead.TheVariants as see
-use Rattle.sl_parse_expr.specs.Reading.{fold, clean, expect}
+use Rattle.std.proofs.Common.{◌≡◌, length}
+use Rattle.sl_parse_expr.specs.Reading.{fold, clean}
 use Rattle.sl_parse_expr.specs.Levels.{expr}
 use Rattle.sl_parse_expr.specs.PatternRules.{pattern}
 use Rattle.sl_parse_expr.specs.Rules.{operations, operation, at_operator, added}
-use Rattle.sl_parse_expr.proofs.Level.{level, pattern_level}
-use Rattle.sl_parse_expr.proofs.Good.{good_operation}
 use Rattle.sl_parse_expr.proofs.grammar.Grammar.operations.Given as goal
 
 abbrev pub invariant-turn : goal.invariant-turn

@@ -1,4 +1,4 @@
-use Rattle.std.proofs.Common.{◌≡◌, ◌∙◌, sym}
+use Rattle.std.proofs.Common.{◌∙◌, sym}
 use Rattle.sl_parse_expr.specs.Rules.{start}
 use Rattle.sl_parse_expr.proofs.grammar.Grammar.start.Goals as goal
 

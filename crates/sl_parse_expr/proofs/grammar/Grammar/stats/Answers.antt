@@ -1,9 +1,6 @@
 use Rattle.std.proofs.Common.{◌≡◌, ◌∙◌, ap, sym, rules, arith, refl, Ok, Err, true, false, List, [], ◌∷◌, Some, None, Bool, Option, ◌++◌}
-use Rattle.std.specs.Prelude.{◌&&◌}
 use Rattle.std.proofs.lemmas.Grind.{common_steps}
-use Rattle.sl_ast.specs.declared.token.Token.{Token}
-use Rattle.sl_parse_expr.specs.declared.ahead.Ahead.TheVariants as see
-use Rattle.sl_parse_expr.specs.Reading.{Reads, ahead, fold, clean, expect, if_clean}
+use Rattle.sl_parse_expr.specs.Reading.{Reads, fold, clean}
 use Rattle.sl_parse_expr.proofs.Loops.{eats_of, goes_on, ends, fails_as}
 use Rattle.sl_parse_expr.specs.Levels.{expr}
 use Rattle.sl_parse_expr.specs.PatternRules.{pattern}
@@ -12,7 +9,6 @@ use Rattle.sl_parse_expr.proofs.Level.{level, pattern_level}
 use Rattle.sl_parse_expr.proofs.Good.{good_block_item, item_none}
 use Rattle.sl_parse_expr.specs.Starts.{begins_stat}
 use mathlib.Core.Bool.{not}
-use Rattle.sl_ast.specs.declared.expr.Expr.{Expr}
 use Rattle.sl_ast.specs.declared.block.Stat.{Stat}
 use Rattle.sl_parse_expr.specs.Reading.{Reader, Outcome, State}
 use Rattle.sl_parse_expr.proofs.grammar.Grammar.stats.Goals as goal

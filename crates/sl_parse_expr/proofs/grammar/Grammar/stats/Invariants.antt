@@ -1,11 +1,8 @@
-use Rattle.std.proofs.Common.{◌≡◌, length, List, [], true, false}
-use Rattle.sl_parse_expr.specs.declared.ahead.Ahead.TheVariants as see
-use Rattle.sl_parse_expr.specs.Reading.{fold, clean, expect}
+use Rattle.std.proofs.Common.{◌≡◌, length}
+use Rattle.sl_parse_expr.specs.Reading.{fold, clean}
 use Rattle.sl_parse_expr.specs.Levels.{expr}
 use Rattle.sl_parse_expr.specs.PatternRules.{pattern}
 use Rattle.sl_parse_expr.specs.Rules.{stats, block_item, at_item, add_item}
-use Rattle.sl_parse_expr.proofs.Level.{level, pattern_level}
-use Rattle.sl_parse_expr.proofs.Good.{good_block_item, item_none}
 use Rattle.sl_parse_expr.specs.Starts.{begins_stat}
 use Rattle.sl_parse_expr.proofs.grammar.Grammar.stats.Given as goal
 

@@ -1,9 +1,6 @@
-use Rattle.std.proofs.Common.{◌≡◌, ◌∙◌, ap, sym, rules, arith, refl, Ok, Err, true, false, List, [], ◌∷◌, Some, None, Bool}
-use Rattle.std.specs.Prelude.{◌&&◌}
+use Rattle.std.proofs.Common.{◌∙◌, ap, sym, rules, arith, refl, Ok, Err, Some, None}
 use Rattle.std.proofs.lemmas.Grind.{common_steps}
-use Rattle.sl_ast.specs.declared.token.Token.{Token}
-use Rattle.sl_parse_expr.specs.declared.ahead.Ahead.TheVariants as see
-use Rattle.sl_parse_expr.specs.Reading.{Reads, ahead, fold, clean, expect, if_clean}
+use Rattle.sl_parse_expr.specs.Reading.{Reads}
 use Rattle.sl_parse_expr.proofs.Loops.{eats_of, goes_on, ends, fails_as}
 use Rattle.sl_parse_expr.specs.Levels.{expr}
 use Rattle.sl_parse_expr.specs.PatternRules.{pattern}

@@ -1,10 +1,7 @@
-use Rattle.std.proofs.Common.{◌≡◌, length, List, [], true, false}
-use Rattle.sl_parse_expr.specs.declared.ahead.Ahead.TheVariants as see
-use Rattle.sl_parse_expr.specs.Reading.{fold, clean, expect}
+use Rattle.std.proofs.Common.{◌≡◌, length}
+use Rattle.sl_parse_expr.specs.Reading.{fold, clean}
 use Rattle.sl_parse_expr.specs.PatternRules.{pattern, more_alternatives, next_alternative}
 use Rattle.sl_parse_expr.specs.Rules.{at_bar, added}
-use Rattle.sl_parse_expr.proofs.Level.{pattern_level}
-use Rattle.sl_parse_expr.proofs.PatternGood.{good_next_alternative}
 use Rattle.sl_parse_expr.proofs.pattern_grammar.PatternGrammar.more_alternatives.Given as goal
 
 abbrev pub invariant-turn : goal.invariant-turn
