@@ -1,3 +1,4 @@
+-- What a reader must believe, in this order.
 pub mod Ahead
 pub mod Tokens
 pub mod Spans
@@ -6,7 +7,7 @@ pub mod PatternTrees
 pub mod Starts
 pub mod Phrases
 pub mod Grammar
--- For proofs only.
+-- The rules as readers, which the contracts cite.
 pub mod Reading
 pub mod Rules
 pub mod PatternRules
