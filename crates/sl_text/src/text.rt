@@ -32,6 +32,14 @@ impl Text {
         Text { chars }
     }
 
+    /// The characters.
+    pub fn as_slice(&self) -> &[char]
+        ensures value { result.now ≡ self.now }
+        ensures limit { length result.now ≤ 2 ^ 20 }
+    {
+        self.chars.as_slice()
+    }
+
     /// The number of characters.
     pub fn len(&self) -> u32
         ensures value { result ≡ length self.now }

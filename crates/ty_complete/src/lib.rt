@@ -37,6 +37,7 @@ pub use members::members_differ;
 pub use names::names_fit;
 pub use parameters::{only_classes_have_parameters, parameters_fit};
 pub use parents::{parents_are_no_objects, parents_are_no_threads, parents_fit};
+pub use plain_text::is_text;
 pub use prelude_fields::prelude_is_closed;
 pub use sl_base::NoMemory;
 pub use texts::texts_fit;

@@ -15,7 +15,7 @@ one_of None = inl refl
 one_of (Some x) = inr (x, refl)
 
 -- `find` looks through the class's linearisation
-find_linear : (p : Program) (class : ℕ) (name : List ℕ) → find p class name ≡ first_in p.classes name (linear_of p.classes class)
+pub find_linear : (p : Program) (class : ℕ) (name : List ℕ) → find p class name ≡ first_in p.classes name (linear_of p.classes class)
 find_linear p class name = of_class (slice_get p.classes class) where
   of_class : (o : Option Class) → option_and_then (λ c. first_in p.classes name c.linear) o
       ≡ first_in p.classes name (unwrap_or (option_map (λ c. c.linear) o) [])

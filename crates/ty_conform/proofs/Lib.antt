@@ -1,2 +1,3 @@
 pub mod CarriedLists
+pub mod Found
 pub mod Inherited

@@ -1,4 +1,5 @@
 pub mod Carried
 pub mod Conforms
+pub mod Found
 pub mod Join
 pub mod Kinds

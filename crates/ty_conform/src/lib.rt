@@ -12,4 +12,4 @@ pub use joining::join;
 pub use kinds::{
     is_known, is_object, is_superclass, is_trait, is_trait_kind, reaches, superclass, superclass_of,
 };
-pub use laws::{carried_linearisations, conformance, inherited_members, joins};
+pub use laws::{carried_linearisations, conformance, found_members, inherited_members, joins};

@@ -1,10 +1,10 @@
 -- Which forms a program may have after the first k of the four lowerings: 1 of reads of objects, 2 of traits, 3 of
 -- matching, 4 of lazy members. Each removes some high forms and makes some low ones.
-use Rattle.std.specs.Prelude.{ℕ, ◌≡◌, ◌≤◌, Bool, true, false, ◌&&◌, ◌||◌, not, nat_le, IsTrue, List, [], ◌∷◌, Option, Some, None, if◌then◌else◌}
+use Rattle.std.specs.Prelude.{ℕ, Bool, true, false, ◌&&◌, ◌||◌, not, nat_le, IsTrue, Option, Some, None, if◌then◌else◌}
 use Rattle.std.specs.List.{All, list_any}
 use Rattle.ty_prog.specs.declared.class.Class.{Class}
 use Rattle.ty_prog.specs.declared.program.Program.{Program}
-use Rattle.ty_prog.specs.declared.expr.Expr.{Expr, out-Expr}
+use Rattle.ty_prog.specs.declared.expr.Expr.{out-Expr}
 use Rattle.ty_prog.specs.declared.catch.Catch.{Catch, out-Catch}
 use Rattle.ty_prog.specs.declared.catch.Catch.TheOpen.{Expr-F, Catch-F}
 use Rattle.ty_prog.specs.declared.prim_op.PrimOp.{PrimOp}

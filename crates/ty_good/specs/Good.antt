@@ -9,6 +9,9 @@ use Rattle.ty_good.specs.Forms.{HasForms}
 use Rattle.ty_good.specs.Names.{NamesMade}
 use Rattle.ty_good.specs.Traits.{MixinsFit, SupersStand, TraitsHaveRoom, TraitsLowered}
 use Rattle.ty_good.specs.Modules.{ModulesSet}
+use Rattle.ty_good.specs.Accessors.{AccessorsFound}
+use Rattle.ty_good.specs.LazyGets.{LazyGetsStand}
+use Rattle.ty_good.specs.TraitFields.{TraitFieldsStand}
 use Rattle.ty_good.specs.Selection.{SelectsFound}
 
 -- good where the locals have these types
@@ -23,6 +26,9 @@ pub record GoodWith (k : ℕ) (p : Program) (locals : List ClassLocals) : Type 0
   pub room : TraitsHaveRoom k p
   pub traits : TraitsLowered k p
   pub modules : ModulesSet k p
+  pub lazy_gets : LazyGetsStand k p
+  pub trait_fields : TraitFieldsStand k p
+  pub accessors : AccessorsFound k p
   pub selection : SelectsFound k p
 
 -- all numbers are in range, each expression has the type that its place wants, each local has one type, the program is

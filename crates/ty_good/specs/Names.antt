@@ -1,8 +1,8 @@
 -- Which names a program may have after the first k of the four lowerings, so that those that the others make are free.
 -- A name of a program's own has no `$`, but that of the setter of a variable x, which is `x_$eq`. Of a trait T, the
--- lowering of traits makes `$init$` and `m$` from each method m; in the classes that mix T in it makes fields and cells
--- `T$$x`, setters `T$$x_$eq` and super accessors `T$$super$m`. The lowering of lazy members makes `x$lzy` and `x$init`
--- from each cell x.
+-- lowering of traits makes `$init$` and `m$` from each method m; in the classes that mix T in it makes fields `T$$x`,
+-- setters `T$$x_$eq` and super accessors `T$$super$m`. A lazy member x of T has its own name there, as a cell and as the
+-- method that reads it, so the lowering of lazy members makes `x$lzy` and `x$init` from each cell x, beside `x`.
 use Rattle.std.specs.Prelude.{ℕ, ◌-◌, Bool, true, false, ◌&&◌, ◌||◌, not, nat_le, IsTrue, List, [], ◌∷◌, length, slice_get, option_map, if◌then◌else◌}
 use Rattle.std.specs.List.{list_all}
 use Rattle.std.specs.Option.{unwrap_or}
@@ -21,18 +21,16 @@ abbrev pub class_name_made_by : List Word → ℕ
 class_name_made_by (only ∷ []) = if is_own only then 0 else NEVER
 class_name_made_by other = NEVER
 
--- the lowering that makes a cell of a name; 0 for one of the program's own
+-- a cell has a name of its own, also one of a trait in the class that mixes it in
 abbrev pub cell_name_made_by : List Word → ℕ
 cell_name_made_by (only ∷ []) = if is_own only then 0 else NEVER
-cell_name_made_by (trait ∷ gap ∷ member ∷ []) = if is_own trait && is_none gap && is_own member then 2 else NEVER
 cell_name_made_by other = NEVER
 
--- that which makes a field of a name
+-- the lowering that makes a field of a name; 0 for one of the program's own
 abbrev pub field_name_made_by : List Word → ℕ
 field_name_made_by (only ∷ []) = if is_own only then 0 else NEVER
 field_name_made_by (member ∷ last ∷ []) = if is_own member && is_lzy last then 4 else NEVER
 field_name_made_by (trait ∷ gap ∷ member ∷ []) = if is_own trait && is_none gap && is_own member then 2 else NEVER
-field_name_made_by (trait ∷ gap ∷ member ∷ last ∷ []) = if is_own trait && is_none gap && is_own member && is_lzy last then 4 else NEVER
 field_name_made_by other = NEVER
 
 -- that which makes a method of a name
@@ -45,9 +43,7 @@ method_name_made_by (member ∷ last ∷ []) =
 method_name_made_by (first ∷ second ∷ last ∷ []) =
     if is_none last && (is_none first && is_init second || is_low first && is_eq second) then 2 else NEVER
 method_name_made_by (trait ∷ gap ∷ third ∷ last ∷ []) =
-    if not (is_own trait && is_none gap) then NEVER else
-    if is_super third && is_own last || is_low third && is_eq last then 2 else
-    if is_own third && is_init last then 4 else NEVER
+    if is_own trait && is_none gap && (is_super third && is_own last || is_low third && is_eq last) then 2 else NEVER
 method_name_made_by (trait ∷ gap ∷ third ∷ member ∷ last ∷ []) =
     if is_own trait && is_none gap && is_super third && is_low member && is_eq last then 2 else NEVER
 method_name_made_by other = NEVER

@@ -1,6 +1,6 @@
 -- Which method a call on an object of a class runs (JVMS 5.4.6, with default methods and no access flags), and that it is
 -- the first one of the linearisation.
-use Rattle.std.specs.Prelude.{◌≡◌, ℕ, Bool, true, false, ◌&&◌, ◌||◌, not, nat_eq, nat_le, is_some, IsTrue, List, [], ◌∷◌, ◌++◌, Option, Some, None, slice_get, option_map, option_and_then, option_to_list, if◌then◌else◌}
+use Rattle.std.specs.Prelude.{◌≡◌, ℕ, Bool, true, false, ◌&&◌, ◌||◌, not, nat_eq, nat_le, is_some, IsTrue, List, [], ◌∷◌, ◌++◌, Option, Some, None, codes, slice_get, option_map, option_and_then, if◌then◌else◌}
 use Rattle.std.specs.List.{list_all, list_any, position_from}
 use Rattle.std.specs.Option.{option_or, unwrap_or}
 use Rattle.std.specs.Str.{bytes_eq}
@@ -51,6 +51,12 @@ abbrev pub is_same_member : Method → Method → Bool
 is_same_member wanted m =
     not m.is_static && bytes_eq wanted.name m.name && params_alike wanted.params m.params && results_alike wanted.result m.result
 
+-- the name and the descriptor of a method that Object has, `toString` or `equals` (SLS 12.1)
+abbrev pub is_built_in : Method → Bool
+is_built_in m =
+    bytes_eq m.name (codes "toString") && params_alike m.params [] && results_alike m.result ty.Text
+    || bytes_eq m.name (codes "equals") && params_alike m.params (ty.Any ∷ []) && results_alike m.result ty.Boolean
+
 -- whether the method with these numbers has a body
 abbrev pub has_body : List Class → ℕ × ℕ → Bool
 has_body classes found = unwrap_or (option_map (λ m. is_some m.body) (method_at classes found.0 found.1)) false
@@ -94,10 +100,15 @@ module _ (classes : List Class) (wanted : Method) where
   defaults all [] = []
   defaults all (trait ∷ linear) = default_of all trait ++ defaults all linear
 
-  -- the selected method: the first one in the class and its superclasses; where there is none, the one default method, if
-  -- it is one
+  -- what is selected where no such class declares the method: nothing of the program where Object has it, which stands
+  -- last of the superclasses; else the one default method, if it is one
+  abbrev pub otherwise : List ℕ → Option (ℕ × ℕ)
+  otherwise linear = if is_built_in wanted then None else only (defaults linear linear)
+
+  -- the selected method of the program, the first one in the class and its superclasses; None where the built-in method of
+  -- Object is selected, or none is
   abbrev pub selected : ℕ → Option (ℕ × ℕ)
-  selected class = option_or (inherited (linear_of classes class)) (only (defaults (linear_of classes class) (linear_of classes class)))
+  selected class = option_or (inherited (linear_of classes class)) (otherwise (linear_of classes class))
 
 -- a class selects a method
 abbrev pub Selects : List Class → ℕ → Method → ℕ × ℕ → Type 0

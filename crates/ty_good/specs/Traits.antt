@@ -1,5 +1,5 @@
 -- What traits and the classes that mix them in have before the lowering of traits, the second of the four, and from it on.
-use Rattle.std.specs.Prelude.{ℕ, ◌+◌, ◌≡◌, ◌≤◌, Bool, true, false, ◌&&◌, ◌||◌, not, nat_eq, nat_le, is_some, IsTrue, IsFalse, List, [], ◌∷◌, ◌++◌, Option, Some, None, codes, drop, length, reverse, slice_get, option_map, if◌then◌else◌}
+use Rattle.std.specs.Prelude.{ℕ, ◌+◌, ◌≡◌, Bool, true, false, ◌&&◌, ◌||◌, not, nat_eq, nat_le, IsTrue, IsFalse, List, [], ◌∷◌, ◌++◌, Option, codes, drop, length, reverse, slice_get, option_map, if◌then◌else◌}
 use Rattle.std.specs.List.{All, filter, list_all}
 use Rattle.std.specs.Option.{unwrap_or}
 use Rattle.std.specs.Str.{bytes_eq}
@@ -8,7 +8,7 @@ use Rattle.ty_prog.specs.declared.method.Method.{Method}
 use Rattle.ty_prog.specs.declared.program.Program.{Program}
 use Rattle.ty_prog.specs.declared.expr.Expr.{Expr, out-Expr}
 use Rattle.ty_prog.specs.declared.catch.Catch.TheOpen.{Expr-F}
-use Rattle.ty_prog.specs.Tree.{Tree, ExprTree, ExprLevel}
+use Rattle.ty_prog.specs.Tree.{Tree, ExprLevel}
 use Rattle.ty_walk.specs.Everywhere.{AllNodesOf}
 use Rattle.ty_conform.specs.Kinds.{is_trait, is_trait_kind, superclass, reaches}
 use Rattle.ty_complete.specs.Complete.{super_of}
@@ -57,21 +57,22 @@ abbrev pub are_locals : ℕ → List Expr → Bool
 are_locals number [] = true
 are_locals number (e ∷ rest) = level_is_local number (out-Expr e) && are_locals (number + 1) rest
 
--- `this`, and then the parameters
-abbrev pub hands_on : List Expr → Bool
-hands_on [] = false
-hands_on (e ∷ rest) = is_this (out-Expr e) && are_locals 0 rest
+-- `this`, and then so many parameters
+abbrev pub hands_on : ℕ → List Expr → Bool
+hands_on count [] = false
+hands_on count (e ∷ rest) = is_this (out-Expr e) && nat_eq (length rest) count && are_locals 0 rest
 
 module _ (trait : ℕ) (methods : List Method) where
-  -- a call of the trait's own static method of a name, with the object and the parameters
-  abbrev pub level_forwards : List ℕ → ExprLevel → Bool
-  level_forwards name (Expr-F.StaticCall class method args) =
-      nat_eq class trait && hands_on args && unwrap_or (option_map (λ m. bytes_eq m.name name) (slice_get methods method)) false
-  level_forwards name other = false
+  -- a call of the trait's own static method of a name, with the object and so many parameters
+  abbrev pub level_forwards : List ℕ → ℕ → ExprLevel → Bool
+  level_forwards name count (Expr-F.StaticCall class method args) =
+      nat_eq class trait && hands_on count args && unwrap_or (option_map (λ m. bytes_eq m.name name) (slice_get methods method)) false
+  level_forwards name count other = false
 
-  -- a method m that isn't static is deferred, or calls `m$`
+  -- a method m that isn't static is deferred, or calls `m$` with the object and all its parameters
   abbrev pub method_lowered : Method → Bool
-  method_lowered m = m.is_static || unwrap_or (option_map (λ body. level_forwards (m.name ++ codes "$") (out-Expr body)) m.body) true
+  method_lowered m =
+      m.is_static || unwrap_or (option_map (λ body. level_forwards (m.name ++ codes "$") (length m.params) (out-Expr body)) m.body) true
 
 -- a trait with nothing but such methods
 abbrev pub trait_lowered : ℕ → Class → Bool

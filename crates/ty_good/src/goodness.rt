@@ -1,19 +1,25 @@
 //! Whether a program is good.
 
 ghost use Rattle.std.specs.Prelude.{◌↔◌, IfOk, IsTrue};
+ghost use Rattle.ty_good.specs.Accessors.{AccessorsFound};
 ghost use Rattle.ty_good.specs.Forms.{HasForms};
 ghost use Rattle.ty_good.specs.Good.{GoodWith};
+ghost use Rattle.ty_good.specs.LazyGets.{LazyGetsStand};
 ghost use Rattle.ty_good.specs.Modules.{ModulesSet};
 ghost use Rattle.ty_good.specs.Names.{NamesMade};
 ghost use Rattle.ty_good.specs.Selection.{SelectsFound};
+ghost use Rattle.ty_good.specs.TraitFields.{TraitFieldsStand};
 ghost use Rattle.ty_good.specs.Traits.{MixinsFit, SupersStand, TraitsHaveRoom, TraitsLowered};
 
 use crate::NoMemory;
+use crate::accessors::accessors_found;
 use crate::forms::has_forms;
+use crate::lazy_gets::lazy_gets_stand;
 use crate::modules::modules_set;
 use crate::names::names_made;
 use crate::numbers::numbers_in_range;
 use crate::selection::selects_found;
+use crate::trait_fields::trait_fields_stand;
 use crate::traits::{mixins_fit, supers_stand, traits_have_room, traits_lowered};
 use std::alloc::Global;
 use ty_complete::is_complete;
@@ -48,6 +54,9 @@ pub fn is_good_with(
     if !members_fit(alloc, k, p)? {
         return Ok(false);
     }
+    if !accesses_fit(alloc, k, p)? {
+        return Ok(false);
+    }
     traits_fit(alloc, k, p)
 }
 
@@ -62,6 +71,19 @@ fn members_fit(alloc: Global, k: u32, p: &Program) -> Result<bool, NoMemory>
         return Ok(false);
     }
     selects_found(alloc, k, p)
+}
+
+// Where its lazy members and the fields of its traits are read and stored.
+fn accesses_fit(alloc: Global, k: u32, p: &Program) -> Result<bool, NoMemory>
+    ensures { IfOk result (λ answer. IsTrue answer ↔ (LazyGetsStand k p.now × TraitFieldsStand k p.now × AccessorsFound k p.now)) }
+{
+    if !lazy_gets_stand(alloc, k, p)? {
+        return Ok(false);
+    }
+    if !trait_fields_stand(alloc, k, p)? {
+        return Ok(false);
+    }
+    accessors_found(alloc, k, p)
 }
 
 // What its traits and mixins tell.

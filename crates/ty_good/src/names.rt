@@ -113,13 +113,6 @@ fn cell_name_made_by(name: &[Word]) -> u32
 {
     match name {
         [only] => if is_own(*only) { 0 } else { NEVER },
-        [above, gap, member] => {
-            if is_own(*above) && is_none(*gap) && is_own(*member) {
-                2
-            } else {
-                NEVER
-            }
-        }
         _ => NEVER,
     }
 }
@@ -137,13 +130,6 @@ fn field_name_made_by(name: &[Word]) -> u32
         [above, gap, member] => {
             if is_own(*above) && is_none(*gap) && is_own(*member) {
                 2
-            } else {
-                NEVER
-            }
-        }
-        [above, gap, member, last] => {
-            if is_own(*above) && is_none(*gap) && is_own(*member) && is_lzy(*last) {
-                4
             } else {
                 NEVER
             }
@@ -202,16 +188,15 @@ fn of_three(first: Word, second: Word, last: Word) -> u32
     }
 }
 
-// The super accessor of a method, the setter of a field of a trait, or the initialiser of a cell of one.
+// The super accessor of a method, or the setter of a field of a trait.
 fn of_four(above: Word, gap: Word, third: Word, last: Word) -> u32
     ensures { result ≡ method_name_made_by (above ∷ gap ∷ third ∷ last ∷ []) }
 {
-    if !(is_own(above) && is_none(gap)) {
-        NEVER
-    } else if (is_super(third) && is_own(last)) || (is_low(third) && is_eq(last)) {
+    if is_own(above)
+        && is_none(gap)
+        && ((is_super(third) && is_own(last)) || (is_low(third) && is_eq(last)))
+    {
         2
-    } else if is_own(third) && is_init(last) {
-        4
     } else {
         NEVER
     }

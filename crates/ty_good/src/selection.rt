@@ -1,23 +1,28 @@
 //! Which method a call on an object of a class runs, and whether it is the first one of the linearisation.
 
-ghost use Rattle.std.specs.Prelude.{◌≡◌, ◌↔◌, IsTrue, IfOk, option_and_then, if◌then◌else◌, None, option_to_list, option_copied};
+ghost use Rattle.std.specs.Prelude.{◌≡◌, ◌↔◌, ◌&&◌, ◌∷◌, [], IsTrue, IfOk, option_and_then, if◌then◌else◌, None, codes, option_to_list, option_copied};
+ghost use Rattle.std.specs.Char.{is_ascii};
 ghost use Rattle.std.specs.List.{list_all, list_any, position_from};
+ghost use Rattle.std.specs.Str.{bytes_eq};
 ghost use Rattle.std.specs.Option.{option_or};
 ghost use Rattle.ty_conform.specs.Kinds.{is_trait};
+ghost use Rattle.ty_prog.specs.declared.ty.Ty.TheVariants as ty;
 ghost use Rattle.ty_prog.specs.Find.{number};
 ghost use Rattle.ty_typed.specs.Members.{method_at};
-ghost use Rattle.ty_good.specs.Selection.{is_plain, alike, results_alike, params_alike, is_same_member, declared_in, inherited, declares_again, has_body, if_concrete, default_of, defaults, only, selected, is_found, selects_if_found, selects_method, selects_all_of, SelectsFound};
+ghost use Rattle.ty_good.specs.Selection.{is_plain, alike, results_alike, params_alike, is_same_member, is_built_in, otherwise, declared_in, inherited, declares_again, has_body, if_concrete, default_of, defaults, only, selected, is_found, selects_if_found, selects_method, selects_all_of, SelectsFound};
 
 use crate::NoMemory;
 use crate::each::{ClassRule, each_class};
 use sqlite_items::at;
 use std::alloc::Global;
+use ty_complete::is_text;
 use ty_conform::{inherits, is_trait, is_trait_kind};
-use ty_prog::{Class, Method, Program, Ty, find};
+use ty_prog::{Class, Method, Name, Program, Ty, find};
 
-/// The method of the name and the descriptor of another that a call on an object of a class runs (JVMS 5.4.6), by its
-/// class and its number: the first one that isn't static in the class and its superclasses; where there is none, the
-/// one concrete method of a trait that no trait below it declares again, if it is one.
+/// The method of the program that a call on an object of a class runs (JVMS 5.4.6), of the name and the descriptor of
+/// another, by its class and its number: the first one that isn't static in the class and its superclasses; where there
+/// is none, and Object has none, the one concrete method of a trait that no trait below it declares again, if it is one.
+/// None also for `toString` and `equals` of Object, which are built in.
 pub fn selected(classes: &[Class], wanted: &Method, class: u32) -> Option<(u32, u32)>
     ensures { result ≡ selected classes.now wanted.now class }
 {
@@ -28,12 +33,53 @@ pub fn selected(classes: &[Class], wanted: &Method, class: u32) -> Option<(u32, 
 }
 
 fn selected_in(classes: &[Class], wanted: &Method, linear: &[u32]) -> Option<(u32, u32)>
-    ensures { result ≡ option_or (inherited classes.now wanted.now linear.now) (only (defaults classes.now wanted.now linear.now linear.now)) }
+    ensures { result ≡ option_or (inherited classes.now wanted.now linear.now) (otherwise classes.now wanted.now linear.now) }
 {
     match inherited(classes, wanted, linear) {
         Some(found) => Some(found),
-        None => only_default(classes, wanted, linear),
+        None => otherwise(classes, wanted, linear),
     }
+}
+
+// What is selected where no class of a linearisation declares the method.
+fn otherwise(classes: &[Class], wanted: &Method, linear: &[u32]) -> Option<(u32, u32)>
+    ensures { result ≡ otherwise classes.now wanted.now linear.now }
+{
+    if is_built_in(wanted) {
+        None
+    } else {
+        only_default(classes, wanted, linear)
+    }
+}
+
+// Whether Object has a method of the name and the descriptor of another.
+fn is_built_in(m: &Method) -> bool
+    ensures { result ≡ is_built_in m.now }
+{
+    is_to_string(m) || is_equals(m)
+}
+
+fn is_to_string(m: &Method) -> bool
+    ensures { result ≡ (bytes_eq m.now.name (codes "toString") && params_alike m.now.params [] && results_alike m.now.result ty.Text) }
+{
+    is_called(&m.name, "toString")
+        && params_alike(m.params.as_slice(), &[])
+        && results_alike(m.result, Ty::Text)
+}
+
+fn is_equals(m: &Method) -> bool
+    ensures { result ≡ (bytes_eq m.now.name (codes "equals") && params_alike m.now.params (ty.Any ∷ []) && results_alike m.now.result ty.Boolean) }
+{
+    is_called(&m.name, "equals")
+        && params_alike(m.params.as_slice(), &[Ty::Any])
+        && results_alike(m.result, Ty::Boolean)
+}
+
+fn is_called(name: &Name, text: &str) -> bool
+    requires { IsTrue (list_all is_ascii text.now) }
+    ensures { result ≡ bytes_eq name.now text.now }
+{
+    is_text(name, text)
 }
 
 // The first of a linearisation that a class that isn't a trait declares.

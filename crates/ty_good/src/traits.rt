@@ -244,21 +244,25 @@ fn method_lowered(
 {
     let name = longer(alloc, &method.name, "$")?;
     match &method.body {
-        Some(body) => Ok(method.is_static || forwards(number, methods, &name, body)),
+        Some(body) => Ok(
+            method.is_static || forwards(number, methods, &name, method.params.len(), body),
+        ),
         None => Ok(true),
     }
 }
 
-// Whether an expression calls the trait's own static method of a name with `this` and the parameters.
-fn forwards(number: u32, methods: &[Method], name: &Name, body: &Expr) -> bool
-    ensures { result ≡ level_forwards number methods.now name.now (out-Expr body.now) }
+// Whether an expression calls the trait's own static method of a name with `this` and so many parameters.
+fn forwards(number: u32, methods: &[Method], name: &Name, count: usize, body: &Expr) -> bool
+    ensures { result ≡ level_forwards number methods.now name.now count (out-Expr body.now) }
 {
     match body {
         Expr::StaticCall {
             class,
             method,
             args,
-        } => *class == number && hands_on(args.as_slice()) && is_named(methods, *method, name),
+        } => *class == number
+            && hands_on(count, args.as_slice())
+            && is_named(methods, *method, name),
         _ => false,
     }
 }
@@ -272,12 +276,14 @@ fn is_named(methods: &[Method], method: u32, name: &Name) -> bool
     }
 }
 
-// Whether arguments are `this` and then the locals from 0 on.
-fn hands_on(args: &[Expr]) -> bool
-    ensures { result ≡ hands_on args.now }
+// Whether arguments are `this` and then so many locals from 0 on.
+fn hands_on(count: usize, args: &[Expr]) -> bool
+    ensures { result ≡ hands_on count args.now }
 {
     match args.split_first() {
-        Some((first, rest)) => matches!(*first, Expr::This) && are_locals(rest),
+        Some((first, rest)) => {
+            matches!(*first, Expr::This) && rest.len() == count && are_locals(rest)
+        }
         None => false,
     }
 }

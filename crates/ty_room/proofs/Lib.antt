@@ -1,2 +1,13 @@
 pub mod Folds
 pub mod Steps
+pub mod Monotone
+pub mod Copied
+pub mod Laterness
+pub mod Twice
+pub mod Whole
+pub mod Rows
+pub mod Chains
+pub mod FormsWorth
+pub mod BranchesWorth
+pub mod Within
+pub mod Keeping

@@ -38,7 +38,7 @@ abbrev pub always : Size
 always = tree (Expr-F.Bool true)
 
 abbrev pub local : Size
-local = tree (Expr-F.Local 0)
+local = tree (Expr-F.Local 1)
 
 -- the read of a member, of which object and with which arguments
 abbrev pub called : Size → List Size → Size
@@ -46,6 +46,9 @@ called of args = tree (Expr-F.Call of 0 0 args)
 
 abbrev pub applied : List Size → Size
 applied args = tree (Expr-F.New 0 args)
+
+abbrev pub joined_texts : Size → Size → Size
+joined_texts a b = tree (Expr-F.Prim op.Concat (tree (Expr-F.TextOf a) ∷ tree (Expr-F.TextOf b) ∷ []))
 
 -- a form: how many nodes of source it has, how many of its parts are expressions and how many are cases or patterns,
 -- and its size
@@ -106,6 +109,8 @@ expressions p =
     ∷ row 2 2 0 (boxed (called p (p ∷ [])))
     ∷ row 2 1 0 (boxed (tree (Expr-F.SetLocal 0 (tree (Expr-F.Prim op.Add (local ∷ p ∷ []))))))
     ∷ row 2 1 0 (boxed (called this (tree (Expr-F.Prim op.Add (called this [] ∷ p ∷ [])) ∷ [])))
+    ∷ row 2 1 0 (boxed (tree (Expr-F.SetLocal 0 (joined_texts local p)))) ∷ row 2 1 0 (boxed (called this (joined_texts (called this []) p ∷ [])))
+    ∷ row 2 2 0 (heavier 1 (boxed (tree (Expr-F.Block (tree (Expr-F.SetLocal 0 p) ∷ called local (joined_texts (called local []) p ∷ []) ∷ [])))))
     ∷ row 2 2 0 (heavier 1 (boxed (tree (Expr-F.Block (tree (Expr-F.SetLocal 0 p) ∷ called local (tree (Expr-F.Prim op.Add (called local [] ∷ p ∷ [])) ∷ []) ∷ [])))))
     -- control
     ∷ row 1 3 0 (boxed (tree (Expr-F.If p p p))) ∷ row 1 2 0 (boxed (tree (Expr-F.If p p (tree Expr-F.Unit))))
@@ -117,13 +122,6 @@ expressions p =
     -- blocks, a local definition with its local, a value that is dropped
     ∷ row 1 1 0 (tree (Expr-F.Block (p ∷ []))) ∷ row 1 4 0 (tree (Expr-F.Block (p ∷ p ∷ p ∷ p ∷ [])))
     ∷ row 1 1 0 (heavier 1 (boxed (tree (Expr-F.SetLocal 0 p)))) ∷ row 1 1 0 (boxed (tree (Expr-F.Block (p ∷ tree Expr-F.Unit ∷ []))))
-    ∷ []
-
--- assignments with `+` of a text, whose operands hold no `try`
-abbrev pub text_assignments : List Form
-text_assignments =
-    row 2 1 0 (boxed (tree (Expr-F.SetLocal 0 (tree (Expr-F.Prim op.Concat (tree (Expr-F.TextOf local) ∷ tree (Expr-F.TextOf plain) ∷ []))))))
-    ∷ row 2 1 0 (boxed (called this (tree (Expr-F.Prim op.Concat (tree (Expr-F.TextOf (called this [])) ∷ tree (Expr-F.TextOf plain) ∷ [])) ∷ [])))
     ∷ []
 
 -- patterns with parts p
@@ -148,7 +146,7 @@ cases p =
 abbrev pub forms_fit : Bool
 forms_fit =
     list_all (fits EXPR_SPARE CASE_SPARE) (expressions plain) && list_all (fits EXPR_SPARE CASE_SPARE) (expressions trying_part)
-    && list_all (fits EXPR_SPARE CASE_SPARE) text_assignments && list_all (fits PATTERN_SPARE PATTERN_SPARE) (patterns trying_part)
+    && list_all (fits PATTERN_SPARE PATTERN_SPARE) (patterns trying_part)
     && list_all (fits CASE_SPARE PATTERN_SPARE) (cases trying_part)
 
 -- what stands for a form when a pass is done, beside the form
@@ -218,7 +216,7 @@ lowerings p =
     -- reads of objects
     low (tree_at 1 (Expr-F.ModuleGet 0)) (tree (Expr-F.ObjectGet 0))
     -- traits: the object of a body, fields, calls by `super`
-    ∷ low local (tree_at 1 Expr-F.This) ∷ low (tree_at 2 (Expr-F.Call p 0 0 [])) (tree_at 1 (Expr-F.Get p 0 0))
+    ∷ low (tree_at 2 (Expr-F.Local 0)) (tree_at 1 Expr-F.This) ∷ low (tree_at 2 (Expr-F.Call p 0 0 [])) (tree_at 1 (Expr-F.Get p 0 0))
     ∷ low (tree_at 2 (Expr-F.Call p 0 0 (p ∷ []))) (tree_at 1 (Expr-F.Put p 0 0 p))
     ∷ low (tree_at 2 (Expr-F.StaticCall 0 0 (tree_at 2 Expr-F.This ∷ p ∷ p ∷ []))) (tree_at 1 (Expr-F.SuperCall 0 [] (p ∷ p ∷ [])))
     ∷ low (tree_at 2 (Expr-F.Call local 0 0 (p ∷ p ∷ []))) (tree_at 1 (Expr-F.SuperCall 0 [] (p ∷ p ∷ [])))
@@ -238,7 +236,7 @@ lowerings p =
     -- a case with a guard and what comes behind it; a match with its end; a handler with its end
     ∷ low (tree_at 3 (Expr-F.If (type_test part p) p plain)) (case_size (matched (Pattern-F.OfType ty.Int)) (Some p) p)
     ∷ low (tree_at 3 (Expr-F.Block (kept_in_local (tree_at 3 (Expr-F.Convert ty.AnyRef p)) ∷ tree_at 3 (Expr-F.Throw (tree_at 3 (Expr-F.New 0 (tree_at 3 (Expr-F.Prim op.ClassName (any_of local ∷ [])) ∷ [])))) ∷ [])))
-    (heavier 0 (record plain { value = (tree_at 2 (Expr-F.Match p [])).value; entries = 3 }))
+    (tree_at 2 (Expr-F.Match p []))
     ∷ low (heavier 1 (tree_at 3 (Expr-F.Try p (Some (beside nothing (tree_at 3 (Expr-F.Throw local)))) None))) (tree_at 2 (Expr-F.Try p (Some nothing) None))
     ∷ []
 

@@ -4,5 +4,12 @@ pub mod Numbers
 pub mod Sizing
 pub mod Ahead
 pub mod Forms
+pub mod NoMore
+pub mod Replaced
+pub mod Source
+pub mod Members
+pub mod Limits
+pub mod AtLimits
+pub mod Kept
 -- For proofs only.
 pub mod Capped

@@ -1,7 +1,7 @@
 -- What a form takes in a class file without its parts, at most: bytes of code (JVMS 6.5, 4.9.1) and entries of a constant
 -- pool (JVMS 4.4). Code is what is needed wherever the form may stand: a local is loaded by four bytes, a constant by
 -- three, a jump takes three. The table of forms stands in Sizing.
-use Rattle.std.specs.Prelude.{ℕ, ◌+◌, true, false, if◌then◌else◌}
+use Rattle.std.specs.Prelude.{ℕ, ◌+◌, nat_eq, nat_le, true, false, if◌then◌else◌}
 use Rattle.ty_prog.specs.declared.prim_op.PrimOp.{PrimOp}
 use Rattle.ty_prog.specs.declared.prim_op.PrimOp.TheVariants as op
 use Rattle.ty_prog.specs.declared.ty.Ty.{Ty}
@@ -45,15 +45,22 @@ operator_numbers op.Evaluating = form 3 0
 operator_numbers op.NullValue = form 3 0
 operator_numbers other = operation 1 0
 
--- a conversion by its type
+-- a conversion by its type: to AnyRef there is nothing to do, since only a reference is converted to it
 abbrev pub convert_bytes : Ty → ℕ
 convert_bytes ty.Any = 4
+convert_bytes ty.AnyRef = 0
 convert_bytes ty.Unit = 5
 convert_bytes other = 3
 
--- `this`, which the lowering of traits may make a local
-abbrev pub this_bytes : Ahead → ℕ
-this_bytes ahead = if ahead.traits then 4 else 1
+-- a local: the first one is loaded by one byte (JVMS 6.5, `aload_0` and its kin); but until the lowering of traits it may
+-- become the second, since the object of a trait's method comes in front
+abbrev pub local_bytes : Ahead → ℕ → ℕ
+local_bytes ahead local = if ahead.traits then 4 else (if nat_eq local 0 then 1 else 4)
+
+-- what it takes to keep operands, by eight bytes each: one alone stays where it is; of two the first is kept, and the second
+-- comes behind it by two bytes at most (JVMS 6.5, `swap`, `dup_x2` and their kin)
+abbrev pub kept_bytes : ℕ → ℕ
+kept_bytes all = if nat_le all 8 then 0 else (if nat_eq all 16 then 10 else all)
 
 -- a read of a field, and a write, which it may make calls
 abbrev pub get_numbers : Ahead → Numbers

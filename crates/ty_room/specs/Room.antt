@@ -6,6 +6,8 @@ use Rattle.std.specs.Option.{unwrap_or}
 use Rattle.ty_prog.specs.declared.class.Class.{Class}
 use Rattle.ty_prog.specs.declared.cell.Cell.{Cell}
 use Rattle.ty_prog.specs.declared.method.Method.{Method}
+use Rattle.ty_prog.specs.declared.kind.Kind.{Kind}
+use Rattle.ty_prog.specs.declared.kind.Kind.TheVariants as kind
 use Rattle.ty_prog.specs.declared.expr.Expr.{Expr}
 use Rattle.ty_prog.specs.declared.program.Program.{Program}
 use Rattle.ty_room.specs.declared.ahead.Ahead.{Ahead}
@@ -56,12 +58,25 @@ field_entries ahead = if ahead.traits then 8 else 1
 abbrev pub CELL_ENTRIES : ℕ
 CELL_ENTRIES = 32
 
--- each method: its name and its descriptor; where it has a body, also those that a trait's gives it
+-- each method: its name and its descriptor
 abbrev pub METHOD_ENTRIES : ℕ
 METHOD_ENTRIES = 2
 
+-- a trait's method with a body will call the static method that gets the body
 abbrev pub BODY_ENTRIES : ℕ
 BODY_ENTRIES = 4
+
+-- the reference of an object, which its constructor will store
+abbrev pub OBJECT_ENTRIES : ℕ
+OBJECT_ENTRIES = 2
+
+-- the static method that will run a trait's statements: its name and its descriptor
+abbrev pub STATEMENTS_ENTRIES : ℕ
+STATEMENTS_ENTRIES = 2
+
+-- each call by `super` that stands in a class: the deferred method that a trait will have for it
+abbrev pub ACCESSOR_ENTRIES : ℕ
+ACCESSOR_ENTRIES = 2
 
 -- each trait that is mixed in
 abbrev pub MIXIN_ENTRIES : ℕ
@@ -69,13 +84,13 @@ MIXIN_ENTRIES = 5
 
 -- each field, each method and each lazy member that is taken from a trait
 abbrev pub TAKEN_FIELD_ENTRIES : ℕ
-TAKEN_FIELD_ENTRIES = 30
+TAKEN_FIELD_ENTRIES = 20
 
 abbrev pub TAKEN_METHOD_ENTRIES : ℕ
 TAKEN_METHOD_ENTRIES = 12
 
 abbrev pub TAKEN_CELL_ENTRIES : ℕ
-TAKEN_CELL_ENTRIES = 48
+TAKEN_CELL_ENTRIES = 36
 
 -- each call by `super` that stands in a trait that is mixed in
 abbrev pub SUPER_ENTRIES : ℕ
@@ -94,13 +109,21 @@ class_size ahead class =
     (merged (together (map (λ cell. expr_size ahead cell.init) class.cells))
     (together (map (λ method. body_size ahead method.body) class.methods)))
 
--- the entries of a method without its body
-abbrev pub method_entries : Method → ℕ
-method_entries method = METHOD_ENTRIES + (if is_some method.body then BODY_ENTRIES else 0)
-
 -- a method that a class takes from a trait: one with a body that isn't static
 abbrev pub is_taken : Method → Bool
 is_taken method = is_some method.body && not method.is_static
+
+-- the entries of a trait's method without its body. When the traits are lowered, one with a body that isn't static does
+-- nothing but call a static method of the trait: the call counts the static method's name and descriptor
+abbrev pub trait_method_entries : Ahead → Method → ℕ
+trait_method_entries ahead method =
+    if ahead.traits then METHOD_ENTRIES + (if is_some method.body then BODY_ENTRIES else 0)
+    else (if is_taken method then 0 else METHOD_ENTRIES)
+
+-- the entries of a method of a class of some kind, without its body
+abbrev pub method_entries : Ahead → Kind → Method → ℕ
+method_entries ahead kind.Trait method = trait_method_entries ahead method
+method_entries ahead other method = METHOD_ENTRIES
 
 -- what a trait brings to a class that mixes it in
 abbrev pub trait_entries : Ahead → Class → ℕ
@@ -117,13 +140,20 @@ taken_entries ahead classes trait = unwrap_or (option_map (trait_entries ahead) 
 abbrev pub part_entries : Ahead → Class → ℕ
 part_entries ahead class =
     PARAMETER_ENTRIES * length class.params + field_entries ahead * length class.fields
-    + CELL_ENTRIES * length class.cells + sum_by method_entries class.methods
+    + CELL_ENTRIES * length class.cells + sum_by (method_entries ahead class.kind) class.methods
+
+-- what lowerings that are to come add to a class with so many calls by `super`
+abbrev pub coming_entries : Ahead → ℕ → ℕ
+coming_entries ahead supers =
+    (if ahead.objects then OBJECT_ENTRIES else 0)
+    + (if ahead.traits then STATEMENTS_ENTRIES + ACCESSOR_ENTRIES * supers else 0)
 
 -- the entries of a class
 abbrev pub class_entries : Ahead → List Class → Class → ℕ
 class_entries ahead classes class =
     FILE_ENTRIES + NAMED_ENTRIES * length classes + part_entries ahead class
     + sum_by (taken_entries ahead classes) class.mixins + (class_size ahead class).entries
+    + coming_entries ahead (class_size ahead class).supers
 
 -- a body weighs what its tree does, what ends it, and 1 for each local past those that have values
 abbrev pub body_weight : Ahead → ℕ → ℕ → Expr → ℕ

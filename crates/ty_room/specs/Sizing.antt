@@ -11,7 +11,7 @@ use Rattle.ty_prog.specs.Tree.{Tree, ExprTree, CaseTree, PatternTree, Constructo
 use Rattle.ty_room.specs.declared.ahead.Ahead.{Ahead}
 use Rattle.ty_room.specs.declared.numbers.Numbers.{Numbers}
 use Rattle.ty_room.specs.declared.size.Size.{Size}
-use Rattle.ty_room.specs.Numbers.{form, operation, deciding, making, operator_numbers, convert_bytes, this_bytes, get_numbers, put_numbers, handler_bytes, FINALLY_BYTES, CASE_BYTES, MADE_BYTES}
+use Rattle.ty_room.specs.Numbers.{form, operation, deciding, making, operator_numbers, convert_bytes, local_bytes, kept_bytes, get_numbers, put_numbers, handler_bytes, FINALLY_BYTES, CASE_BYTES, MADE_BYTES}
 
 -- no parts
 abbrev pub nothing : Size
@@ -47,7 +47,7 @@ together = fold beside nothing
 
 -- what it takes to keep operands in locals: a handler clears the operand stack (JVMS 2.10)
 abbrev pub keeping : Numbers → Size → ℕ
-keeping form parts = if form.keeps then (if nat_eq parts.tries 0 then 0 else parts.kept + form.more) else 0
+keeping form parts = if form.keeps then (if nat_eq parts.tries 0 then 0 else kept_bytes (parts.kept + form.more)) else 0
 
 -- a form with its parts
 unfoldable pub node_size : Numbers → Size → Size
@@ -222,9 +222,9 @@ expr_step ahead (Expr-F.Bool b) = bool_size b
 expr_step ahead (Expr-F.Text text) = node_size (form 3 2) nothing
 expr_step ahead Expr-F.Null = node_size (form 1 0) nothing
 expr_step ahead Expr-F.Unit = node_size (form 1 0) nothing
-expr_step ahead (Expr-F.Local local) = node_size (form 4 0) nothing
+expr_step ahead (Expr-F.Local local) = node_size (form (local_bytes ahead local) 0) nothing
 expr_step ahead (Expr-F.SetLocal local of) = node_size (form 5 0) (beside nothing of)
-expr_step ahead Expr-F.This = node_size (form (this_bytes ahead) 0) nothing
+expr_step ahead Expr-F.This = node_size (form 1 0) nothing
 expr_step ahead (Expr-F.Get of class field) = node_size (get_numbers ahead) (beside nothing of)
 expr_step ahead (Expr-F.Put of class field value) = node_size (put_numbers ahead) (beside (beside nothing of) value)
 expr_step ahead (Expr-F.Call of class method args) = node_size (operation 6 4) (merged (beside nothing of) (together args))
@@ -240,7 +240,7 @@ expr_step ahead (Expr-F.Block es) = block_size es
 expr_step ahead (Expr-F.Try body handler last) = trying (with_finally (with_handler ahead (beside nothing body) handler) last)
 expr_step ahead (Expr-F.Throw of) = node_size (form 1 0) (beside nothing of)
 expr_step ahead (Expr-F.Start of) = node_size (form 4 0) (beside nothing of)
-expr_step ahead (Expr-F.Match of cases) = node_size (form 29 0) (merged (beside nothing of) (together cases))
+expr_step ahead (Expr-F.Match of cases) = node_size (form 29 3) (merged (beside nothing of) (together cases))
 expr_step ahead (Expr-F.LazyGet of class cell) = node_size (operation 6 4) (beside nothing of)
 expr_step ahead (Expr-F.ObjectGet class) = node_size (form 3 2) nothing
 expr_step ahead (Expr-F.SuperCall after name args) = node_size (making 10 4 1) (together args)

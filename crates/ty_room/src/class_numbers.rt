@@ -35,23 +35,32 @@ pub(crate) const PARAMETER_ENTRIES: u32 = 3;
 /// What each lazy member brings.
 pub(crate) const CELL_ENTRIES: u32 = 32;
 
+/// What stores the reference of an object.
+pub(crate) const OBJECT_ENTRIES: u32 = 2;
+
+/// The static method that runs a trait's statements.
+pub(crate) const STATEMENTS_ENTRIES: u32 = 2;
+
+/// What each call by `super` makes a trait have.
+pub(crate) const ACCESSOR_ENTRIES: u32 = 2;
+
 /// What each method brings.
 pub(crate) const METHOD_ENTRIES: u32 = 2;
 
-/// What each method with a body brings beside.
+/// What each method of a trait with a body brings beside.
 pub(crate) const BODY_ENTRIES: u32 = 4;
 
 /// What each trait brings that is mixed in.
 pub(crate) const MIXIN_ENTRIES: u32 = 5;
 
 /// What each field brings that is taken from a trait.
-pub(crate) const TAKEN_FIELD_ENTRIES: u32 = 30;
+pub(crate) const TAKEN_FIELD_ENTRIES: u32 = 20;
 
 /// What each method brings that is taken from a trait.
 pub(crate) const TAKEN_METHOD_ENTRIES: u32 = 12;
 
 /// What each lazy member brings that is taken from a trait.
-pub(crate) const TAKEN_CELL_ENTRIES: u32 = 48;
+pub(crate) const TAKEN_CELL_ENTRIES: u32 = 36;
 
 /// What each call by `super` brings that stands in a trait that is mixed in.
 pub(crate) const SUPER_ENTRIES: u32 = 12;

@@ -8,7 +8,7 @@ ghost use Rattle.ty_room.specs.Sizing.{nothing, beside, merged, closed, keeping,
 ghost use Rattle.ty_room.specs.Capped.{capped};
 
 use crate::capping::plus;
-use crate::numbers::{MADE_BYTES, MAKE_BYTES, Numbers, form};
+use crate::numbers::{MADE_BYTES, MAKE_BYTES, Numbers, form, kept_bytes};
 use crate::size::Size;
 
 /// No parts.
@@ -221,7 +221,7 @@ fn keeping(form: Numbers, parts: Size) -> u32
     ensures { (f : Numbers) (x : Size) → form ≡ f → IsSize parts x → result ≡ capped (keeping f x) }
 {
     if form.keeps && parts.tries != 0 {
-        plus(parts.kept, form.more)
+        kept_bytes(plus(parts.kept, form.more))
     } else {
         0
     }

@@ -1,7 +1,8 @@
 //! The numbers of each form without its parts: bytes of code and entries of a constant pool, at most.
 
-ghost use Rattle.std.specs.Prelude.{◌≡◌, ◌≤◌};
-ghost use Rattle.ty_room.specs.Numbers.{handler_bytes, form, operation, deciding, making, operator_numbers, convert_bytes, this_bytes, get_numbers, put_numbers};
+ghost use Rattle.std.specs.Prelude.{◌≡◌, ◌≤◌, ℕ};
+ghost use Rattle.ty_room.specs.Capped.{capped};
+ghost use Rattle.ty_room.specs.Numbers.{handler_bytes, form, operation, deciding, making, operator_numbers, convert_bytes, local_bytes, kept_bytes, get_numbers, put_numbers};
 
 use crate::ahead::Ahead;
 use ty_prog::{PrimOp, Ty};
@@ -92,12 +93,22 @@ pub(crate) fn making(bytes: u32, entries: u32, supers: u32) -> Numbers
     }
 }
 
-/// Bytes of `this`, which may become a local.
-pub(crate) fn this_bytes(ahead: Ahead) -> u32
-    ensures bytes { result ≡ this_bytes ahead }
+/// Bytes of a local.
+pub(crate) fn local_bytes(ahead: Ahead, local: u32) -> u32
+    ensures bytes { result ≡ local_bytes ahead local }
     ensures few { result ≤ 100 }
 {
-    if ahead.traits { 4 } else { 1 }
+    if !ahead.traits && local == 0 { 1 } else { 4 }
+}
+
+/// What it takes to keep operands, by eight bytes each.
+pub(crate) fn kept_bytes(all: u32) -> u32
+    ensures { (whole : ℕ) → all ≡ capped whole → result ≡ capped (kept_bytes whole) }
+{
+    if all <= 8 {
+        return 0;
+    }
+    if all == 16 { 10 } else { all }
 }
 
 /// A read of a field, which may become a call.
@@ -148,6 +159,7 @@ pub(crate) fn convert_bytes(to: Ty) -> u32
 {
     match to {
         Ty::Any => 4,
+        Ty::AnyRef => 0,
         Ty::Unit => 5,
         _ => 3,
     }

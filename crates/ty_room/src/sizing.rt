@@ -12,8 +12,8 @@ use crate::combining::{
     merged, node_size, nothing, trying,
 };
 use crate::numbers::{
-    CASE_BYTES, FINALLY_BYTES, convert_bytes, deciding, form, get_numbers, handler_bytes, making,
-    operation, operator_numbers, put_numbers, this_bytes,
+    CASE_BYTES, FINALLY_BYTES, convert_bytes, deciding, form, get_numbers, handler_bytes,
+    local_bytes, making, operation, operator_numbers, put_numbers,
 };
 use crate::size::Size;
 use sqlite_items::Boxed;
@@ -43,9 +43,9 @@ pub(crate) fn expr_size(ahead: Ahead, e: &Expr) -> Size
         Expr::Text(_) => node_size(form(3, 2), nothing()),
         Expr::Null => node_size(form(1, 0), nothing()),
         Expr::Unit => node_size(form(1, 0), nothing()),
-        Expr::Local(_) => node_size(form(4, 0), nothing()),
+        Expr::Local(local) => node_size(form(local_bytes(ahead, *local), 0), nothing()),
         Expr::SetLocal(_, of) => node_size(form(5, 0), one(ahead, of)),
-        Expr::This => node_size(form(this_bytes(ahead), 0), nothing()),
+        Expr::This => node_size(form(1, 0), nothing()),
         Expr::Get { of, .. } => node_size(get_numbers(ahead), one(ahead, of)),
         Expr::Put { of, value, .. } => node_size(
             put_numbers(ahead),
@@ -82,7 +82,7 @@ pub(crate) fn expr_size(ahead: Ahead, e: &Expr) -> Size
         Expr::Throw(of) => node_size(form(1, 0), one(ahead, of)),
         Expr::Start(of) => node_size(form(4, 0), one(ahead, of)),
         Expr::Match { of, cases } => node_size(
-            form(29, 0),
+            form(29, 3),
             merged(one(ahead, of), all_cases(ahead, cases.as_slice())),
         ),
         Expr::LazyGet { of, .. } => node_size(operation(6, 4), one(ahead, of)),

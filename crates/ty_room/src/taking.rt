@@ -64,7 +64,8 @@ fn taken_methods(methods: &[Method]) -> usize
     count
 }
 
-fn is_taken(method: &Method) -> bool
+/// A method that a class takes from a trait.
+pub(crate) fn is_taken(method: &Method) -> bool
     ensures { result ≡ is_taken method.now }
 {
     method.body.is_some() && !method.is_static

@@ -1,5 +1,5 @@
 -- The sum over a tree is what its root counts, and the sums over its children.
-use Rattle.std.proofs.Common.{◌≡◌, ℕ, ◌+◌, List, [], ◌∷◌, ◌++◌, Bool, true, false, if◌then◌else◌, sum, sum_by, map, take, length, get_or, ◌<◌, ◌≤◌, refl, ap, sym, subst, ◌∙◌, Option, Some, None, lit≤, arith, ◌⊎◌, inl, inr}
+use Rattle.std.proofs.Common.{◌≡◌, ℕ, ◌+◌, List, [], ◌∷◌, ◌++◌, Bool, true, false, if◌then◌else◌, sum, sum_by, map, take, length, get_or, ◌<◌, ◌≤◌, refl, ap, sym, subst, ◌∙◌, Option, Some, None, arith, ◌⊎◌, inl, inr}
 use Rattle.std.proofs.Math.Nat.{le_refl}
 use Rattle.std.proofs.lemmas.List.{map-append}
 use Rattle.std.proofs.lemmas.List.Sums.{sum-map, sum_by_more, sum_by-take-le}
@@ -18,7 +18,7 @@ use Rattle.ty_prog.specs.declared.catch.Catch.TheOpen.{Expr-F, Catch-F, Pattern-
 use Rattle.ty_prog.specs.declared.catch.Catch.TheFolds.{fold-Catch, map-Expr, map-Case, map-Pattern, map-Catch, fold_out-Expr, fold_out-Case, fold_out-Pattern, fold_out-Catch}
 use Rattle.ty_prog.specs.Tree.{Tree, ExprTree, CaseTree, PatternTree, ConstructorTree, StageTree, ExprLevel, PatternLevel, CaseLevel, CatchLevel, handler_parts, expr_parts, case_parts, pattern_parts, handler_children, mixins_then, module_then, behind_superclass, behind_params, constructor_children, sets_module, children}
 use Rattle.ty_prog.specs.Node.{tree_at}
-use Rattle.ty_prog.specs.Shape.{Shape, ExprShape, CaseShape, PatternShape, ConstructorShape, StageShape, CatchForm, to_one, catch_form, expr_form, pattern_form, case_form, handler_form, shape}
+use Rattle.ty_prog.specs.Shape.{Shape, ExprShape, CaseShape, PatternShape, ConstructorShape, to_one, catch_form, expr_form, pattern_form, case_form, handler_form, shape}
 use Rattle.ty_walk.specs.SumOver.{Summed, handler_sum, expr_sum, pattern_sum, case_sum, part_sum, sum_over, nodes}
 
 -- two ways to map twice that agree at each item

@@ -2,5 +2,3 @@ pub mod Everywhere
 pub mod SumOver
 -- For proofs only.
 pub mod Parts
--- For tests only.
-pub mod Throwing

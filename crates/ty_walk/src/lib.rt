@@ -6,8 +6,6 @@ mod equal_classes;
 mod equal_trees;
 mod measure;
 mod rule;
-#[cfg(test)]
-mod tests;
 mod totals;
 mod walking;
 

@@ -1,4 +1,4 @@
-use Rattle.std.proofs.Common.{refl, arith}
+use Rattle.std.proofs.Common.{refl}
 use Rattle.ty_good.proofs.Numbered.{kept_more, kept_all, at_number}
 use Rattle.ty_good.proofs.each.each_of.Goals as goal
 

@@ -4,4 +4,4 @@ use Rattle.ty_room.specs.Room.{method_entries}
 use Rattle.ty_room.proofs.pool.all_methods.Given as goal
 
 abbrev pub invariant-loop-method : goal.invariant-loop-method
-invariant-loop-method l = l.so_far ≡ capped (sum_by method_entries (take l.method-index l.methods))
+invariant-loop-method l = l.so_far ≡ capped (sum_by (method_entries l.ahead l.kind) (take l.method-index l.methods))

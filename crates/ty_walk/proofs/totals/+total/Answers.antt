@@ -1,7 +1,6 @@
-use Rattle.std.proofs.Common.{◌≡◌, Some, None, sym, ap, arith, ◌∙◌, ◌+◌, min, sum_by, take, slice_get}
+use Rattle.std.proofs.Common.{sym, ap, arith, ◌∙◌, min, sum_by, take, slice_get}
 use Rattle.std.proofs.lemmas.Option.{slice_get_within}
 use Rattle.ty_prog.specs.Node.{tree_of}
-use Rattle.ty_prog.specs.Shape.{shape}
 use Rattle.ty_prog.specs.Tree.{children}
 use Rattle.ty_walk.specs.SumOver.{sum_over}
 use Rattle.ty_walk.proofs.Sums.{over_next, over_all}

@@ -1,4 +1,4 @@
-use Rattle.std.proofs.Common.{◌≡◌, Some, None, sym, subst, ap, arith, ◌∙◌, slice_get}
+use Rattle.std.proofs.Common.{sym, subst, ap, arith, ◌∙◌, slice_get}
 use Rattle.std.proofs.lemmas.Option.{slice_get_within}
 use Rattle.ty_prog.specs.Node.{tree_of}
 use Rattle.ty_prog.specs.Tree.{children}

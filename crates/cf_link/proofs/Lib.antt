@@ -1,0 +1,5 @@
+mod Chains
+mod Targeting
+mod Numbering
+mod Types
+mod Following

@@ -1,0 +1,27 @@
+//! Why class files aren't linked.
+
+use sl_base::Name;
+
+/// Why class files aren't linked, with the name of the class that is told.
+#[derive(Debug, Drop)]
+pub struct LinkFault {
+    pub class: Name,
+    pub kind: LinkKind,
+}
+
+/// Why class files aren't linked.
+#[derive(Clone, Copy, Debug, PartialEq, Eq)]
+pub enum LinkKind {
+    /// A class has the name of an earlier or built-in one.
+    Twice,
+    /// A named class isn't there.
+    NoClass,
+    /// A class is its own ancestor.
+    Cyclic,
+    /// The superclass is an interface, an interface isn't one, or a descriptor is malformed.
+    Shape,
+    /// A field or method isn't found, or `Main` has no `main` to start at.
+    NoMember,
+    /// No memory was left.
+    Memory,
+}

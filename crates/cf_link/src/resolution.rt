@@ -1,0 +1,220 @@
+//! What references to fields and methods resolve to (JVMS 5.4.3).
+
+ghost use Rattle.std.specs.Prelude.{◌≡◌, ◌+◌, option_map};
+ghost use Rattle.cf_link.specs.Classes.{number, number_of, statics_of};
+ghost use Rattle.cf_link.specs.Resolution.{is_field, is_method, instance_in, field_in, method_in, in_interface, first_found, resolved_field, resolved_method};
+ghost use Rattle.cf_link.specs.declared.reference.LinkedRef.TheVariants.{Field, Static};
+
+use crate::built_in::BUILT_INS;
+use crate::classes::{
+    chain_of, fields_of, is_interface, line_of, methods_of, number, slots_of, statics_of,
+};
+use crate::linked_class::LinkedClass;
+use crate::member::{LinkedField, LinkedMethod};
+use crate::reference::LinkedRef;
+use sl_base::Name;
+
+/// What a reference to a field of a class resolves to (JVMS 5.4.3.2).
+pub fn resolved_field(
+    classes: &[LinkedClass],
+    class: u32,
+    name: &Name,
+    descriptor: &Name,
+) -> Option<LinkedRef>
+    ensures { result ≡ resolved_field classes.now class name.now descriptor.now }
+{
+    match field_of_chain(classes, chain_of(classes, class), name, descriptor) {
+        Some(found) => Some(found),
+        None => field_of_interfaces(classes, line_of(classes, class), name, descriptor),
+    }
+}
+
+fn field_of_chain(
+    classes: &[LinkedClass],
+    chain: &[u32],
+    name: &Name,
+    descriptor: &Name,
+) -> Option<LinkedRef>
+    ensures { result ≡ first_found (field_in classes.now name.now descriptor.now) chain.now }
+{
+    for class in chain {
+        if let Some(found) = field_in(classes, *class, name, descriptor) {
+            return Some(found);
+        }
+    }
+    None
+}
+
+fn field_of_interfaces(
+    classes: &[LinkedClass],
+    line: &[u32],
+    name: &Name,
+    descriptor: &Name,
+) -> Option<LinkedRef>
+    ensures { result ≡ first_found (in_interface classes.now (field_in classes.now name.now descriptor.now)) line.now }
+{
+    for class in line {
+        if is_interface(classes, *class) {
+            if let Some(found) = field_in(classes, *class, name, descriptor) {
+                return Some(found);
+            }
+        }
+    }
+    None
+}
+
+// The field that a class of a file declares.
+fn field_in(
+    classes: &[LinkedClass],
+    class: u32,
+    name: &Name,
+    descriptor: &Name,
+) -> Option<LinkedRef>
+    ensures { result ≡ field_in classes.now name.now descriptor.now class }
+{
+    if class < BUILT_INS {
+        return None;
+    }
+    match instance_in(classes, class, name, descriptor) {
+        Some(found) => Some(found),
+        None => static_in(classes, class, name, descriptor),
+    }
+}
+
+fn instance_in(
+    classes: &[LinkedClass],
+    class: u32,
+    name: &Name,
+    descriptor: &Name,
+) -> Option<LinkedRef>
+    ensures { result ≡ instance_in classes.now name.now descriptor.now class }
+{
+    let slots = slots_of(classes, class).len();
+    let fields = fields_of(classes, class);
+    let inherited = if fields.len() <= slots {
+        slots - fields.len()
+    } else {
+        0
+    };
+    match position_of_field(fields, name, descriptor) {
+        Some(i) => field_at(class, inherited, i),
+        None => None,
+    }
+}
+
+// A field of an object, where its number has 32 bits.
+fn field_at(class: u32, inherited: usize, i: u32) -> Option<LinkedRef>
+    ensures { result ≡ option_map (λ n. Field class n) (number (inherited + i)) }
+{
+    if inherited >= 1 << 32 {
+        return None;
+    }
+    match number(inherited + i as usize) {
+        Some(n) => Some(LinkedRef::Field(class, n)),
+        None => None,
+    }
+}
+
+fn static_in(
+    classes: &[LinkedClass],
+    class: u32,
+    name: &Name,
+    descriptor: &Name,
+) -> Option<LinkedRef>
+    ensures { result ≡ option_map (λ i. Static class i) (number_of (is_field name.now descriptor.now) (statics_of classes.now class)) }
+{
+    match position_of_field(statics_of(classes, class), name, descriptor) {
+        Some(i) => Some(LinkedRef::Static(class, i)),
+        None => None,
+    }
+}
+
+fn position_of_field(fields: &[LinkedField], name: &Name, descriptor: &Name) -> Option<u32>
+    ensures { result ≡ number_of (is_field name.now descriptor.now) fields.now }
+{
+    for (i, f) in fields.iter().enumerate() {
+        if *name == f.name && *descriptor == f.descriptor {
+            return number(i);
+        }
+    }
+    None
+}
+
+/// What a reference to a method of a class or interface resolves to (JVMS 5.4.3.3, 5.4.3.4); none to the initialiser of a
+/// class.
+pub fn resolved_method(
+    classes: &[LinkedClass],
+    class: u32,
+    name: &Name,
+    descriptor: &Name,
+) -> Option<LinkedRef>
+    ensures { result ≡ resolved_method classes.now class name.now descriptor.now }
+{
+    if name.as_str() == "<clinit>" {
+        return None;
+    }
+    match method_of_chain(classes, chain_of(classes, class), name, descriptor) {
+        Some(found) => Some(found),
+        None => method_of_interfaces(classes, line_of(classes, class), name, descriptor),
+    }
+}
+
+fn method_of_chain(
+    classes: &[LinkedClass],
+    chain: &[u32],
+    name: &Name,
+    descriptor: &Name,
+) -> Option<LinkedRef>
+    ensures { result ≡ first_found (method_in classes.now name.now descriptor.now) chain.now }
+{
+    for class in chain {
+        if let Some(found) = method_in(classes, *class, name, descriptor) {
+            return Some(found);
+        }
+    }
+    None
+}
+
+fn method_of_interfaces(
+    classes: &[LinkedClass],
+    line: &[u32],
+    name: &Name,
+    descriptor: &Name,
+) -> Option<LinkedRef>
+    ensures { result ≡ first_found (in_interface classes.now (method_in classes.now name.now descriptor.now)) line.now }
+{
+    for class in line {
+        if is_interface(classes, *class) {
+            if let Some(found) = method_in(classes, *class, name, descriptor) {
+                return Some(found);
+            }
+        }
+    }
+    None
+}
+
+// The method that a class declares.
+fn method_in(
+    classes: &[LinkedClass],
+    class: u32,
+    name: &Name,
+    descriptor: &Name,
+) -> Option<LinkedRef>
+    ensures { result ≡ method_in classes.now name.now descriptor.now class }
+{
+    match position_of_method(methods_of(classes, class), name, descriptor) {
+        Some(i) => Some(LinkedRef::Method(class, i)),
+        None => None,
+    }
+}
+
+fn position_of_method(methods: &[LinkedMethod], name: &Name, descriptor: &Name) -> Option<u32>
+    ensures { result ≡ number_of (is_method name.now descriptor.now) methods.now }
+{
+    for (i, m) in methods.iter().enumerate() {
+        if *name == m.name && *descriptor == m.descriptor {
+            return number(i);
+        }
+    }
+    None
+}

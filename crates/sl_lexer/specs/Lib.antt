@@ -1,0 +1,7 @@
+pub mod Lex
+pub mod Piece
+pub mod Class
+pub mod TextLiteral
+pub mod Comment
+pub mod Characters
+pub mod Reading

@@ -1,0 +1,10 @@
+use Rattle.std.proofs.Common.{◌≡◌, ◌-◌, ◌++◌, Some, take, map, reverse, ap, ◌∙◌, arith}
+use Rattle.sm_rule.specs.Moves.{arguments}
+use Rattle.sm_decide.specs.Forms.{pushed}
+use Rattle.sm_decide.proofs.Listed.{arguments_pushed}
+use Rattle.sm_decide.proofs.operands.arguments.Goals as goal
+
+pub loop-left-preserved : goal.loop-left-preserved
+loop-left-preserved c =
+    ap (λ l. l ++ arguments c.args.last.now (take (c.loop-left.left - 1) c.args.operands.now)) (c.in_ok-push_some.ensures ∙ ap (pushed c.loop-left.made) c.get.ensures)
+    ∙ arguments_pushed c.args.last.now c.args.operands.now c.loop-left.made _ c.loop-left.left (omega arith) c.loop-left.invariant

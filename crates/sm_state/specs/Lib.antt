@@ -1,0 +1,5 @@
+pub mod Entering
+pub mod Layout
+pub mod Lends
+-- For proofs only.
+pub mod TreeCode

@@ -1,0 +1,62 @@
+-- Programs of source that keep the limits, by what each member of a class stands for.
+use Rattle.std.specs.Prelude.{ℕ, ◌+◌, ◌*◌, ◌-◌, ◌≤◌, Option, Some, None, List, length, sum_by}
+use Rattle.std.specs.List.{All}
+use Rattle.ty_prog.specs.declared.class.Class.{Class}
+use Rattle.ty_prog.specs.declared.cell.Cell.{Cell}
+use Rattle.ty_prog.specs.declared.method.Method.{Method}
+use Rattle.ty_prog.specs.declared.expr.Expr.{Expr}
+use Rattle.ty_prog.specs.declared.program.Program.{Program}
+use Rattle.ty_room.specs.Ahead.{ahead_of}
+use Rattle.ty_room.specs.Sizing.{expr_size}
+use Rattle.ty_room.specs.Room.{superclass_size, class_size, part_entries, taken_entries, ACCESSOR_ENTRIES}
+
+-- the most nodes of a body or a constructor, the most units of a class, the most classes, those of the prelude included
+abbrev pub MOST_NODES : ℕ
+MOST_NODES = 1000
+
+abbrev pub MOST_UNITS : ℕ
+MOST_UNITS = 10000
+
+abbrev pub MOST_CLASSES : ℕ
+MOST_CLASSES = 4120
+
+-- what a class may bring besides, as the constant parts of a case class do
+abbrev pub BESIDE_ENTRIES : ℕ
+BESIDE_ENTRIES = 500
+
+-- a body that stands for so many nodes of source, with its locals
+pub record BodyWithin (given locals : ℕ) (body : Expr) : Type 0 where
+  pub nodes : ℕ
+  pub few : nodes ≤ MOST_NODES
+  pub bytes : (expr_size (ahead_of 0) body).value + (locals - given) ≤ 31 * nodes
+
+-- a lazy member, and a method, perhaps without a body
+unfoldable pub CellWithin : Cell → Type 0
+CellWithin cell = BodyWithin 0 cell.locals cell.init
+
+abbrev pub SomeWithin : Method → Option Expr → Type 0
+SomeWithin method None = Unit
+SomeWithin method (Some body) = BodyWithin (length method.params) method.locals body
+
+unfoldable pub MethodWithin : Method → Type 0
+MethodWithin method = SomeWithin method method.body
+
+-- a class: its constructor, of which each parameter counts two nodes and each trait that is mixed in four; its members; and
+-- its size
+pub record ClassWithin (classes : List Class) (class : Class) : Type 0 where
+  pub nodes : ℕ
+  pub few : nodes + 2 * length class.params + 4 * length class.mixins ≤ MOST_NODES
+  pub bytes : (superclass_size (ahead_of 0) class.super_args).value + sum_by (λ e. (expr_size (ahead_of 0) e).value + 1) class.body
+      + (class.locals - length class.params) ≤ 31 * nodes
+  pub cells : All CellWithin class.cells
+  pub methods : All MethodWithin class.methods
+  pub units : ℕ
+  pub small : units ≤ MOST_UNITS
+  pub entries : (class_size (ahead_of 0) class).entries + part_entries (ahead_of 0) class
+      + sum_by (taken_entries (ahead_of 0) classes) class.mixins + ACCESSOR_ENTRIES * (class_size (ahead_of 0) class).supers
+      ≤ 5 * units + BESIDE_ENTRIES
+
+-- a program
+pub record WithinLimits (p : Program) : Type 0 where
+  pub few : length p.classes ≤ MOST_CLASSES
+  pub classes : All (ClassWithin p.classes) p.classes

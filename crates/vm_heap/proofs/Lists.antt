@@ -1,0 +1,8 @@
+-- A place past a list's end.
+use Rattle.std.proofs.Common.{◌≡◌, ℕ, zero, suc, ◌≤◌, List, [], ◌∷◌, length, refl, ap, arith}
+use Rattle.std.specs.Prelude.{slice_set}
+
+pub set_past : {A : Type 0} (xs : List A) (i : ℕ) (x : A) → length xs ≤ i → slice_set xs i x ≡ xs
+set_past [] i x past = refl
+set_past (y ∷ ys) zero x past = absurd (omega arith)
+set_past (y ∷ ys) (suc i) x past = ap (λ l. y ∷ l) (set_past ys i x (omega arith))

@@ -1,0 +1,171 @@
+//! Fields (JVMS 6.5: getfield, putfield).
+
+ghost use Rattle.std.specs.Prelude.{◌≡◌, ◌∷◌, ◌<◌, ◌≤◌, length, drop, slice_get};
+ghost use Rattle.std.specs.Option.{option_copied};
+ghost use Rattle.vm_state.specs.Heaps.{field_at, with_field};
+ghost use Rattle.vm_state.specs.Shared.{Shares, got, gets_field, field_named, get_field, fits_slot, written, puts_field, field_put, put_field};
+
+use cf_link::built_in::NULL_POINTER_EXCEPTION;
+use cf_link::{Linked, LinkedRef, Slot, conforms, slots_of};
+use vm_state::{Effect, Frame, Heap, HeapEffect, Object, StuckKind, Value, pop_off, replace_top};
+
+fn field_at(h: &Heap, at: u32, n: u32) -> Option<Value>
+    ensures { result ≡ field_at h.now at n }
+{
+    match h.objects.get(at as usize) {
+        Some(o) => match o.fields.get(n as usize) {
+            Some(v) => Some(*v),
+            None => None,
+        },
+        None => None,
+    }
+}
+
+/// Puts what a field holds in the place of its object.
+fn read(h: &Heap, f: &mut Frame, v: Option<Value>) -> HeapEffect
+    requires pc { f.old.pc < 65535 }
+    requires some { 0 < length f.old.stack.values }
+    ensures { Shares (got h.now f.old (drop 1 f.old.stack.values) v) result h.now h.now f.old f.new }
+{
+    match v {
+        None => HeapEffect::Stuck(StuckKind::WrongKind),
+        Some(v) => match replace_top(f, v) {
+            Effect::Done => HeapEffect::Done,
+            Effect::Stuck(kind) => HeapEffect::Stuck(kind),
+            _ => HeapEffect::Stuck(StuckKind::WrongKind),
+        },
+    }
+}
+
+fn gets_field(k: &Linked, h: &Heap, f: &mut Frame, class: u32, n: u32, v: Value) -> HeapEffect
+    requires pc { f.old.pc < 65535 }
+    requires some { 0 < length f.old.stack.values }
+    ensures { Shares (gets_field k.now h.now f.old class n v (drop 1 f.old.stack.values)) result h.now h.now f.old f.new }
+{
+    match v {
+        Value::Ref { at, class: of } => {
+            if conforms(k.classes.as_slice(), of, class) {
+                read(h, f, field_at(h, at, n))
+            } else {
+                HeapEffect::Stuck(StuckKind::WrongKind)
+            }
+        }
+        Value::Null => HeapEffect::Fail(NULL_POINTER_EXCEPTION),
+        _ => HeapEffect::Stuck(StuckKind::WrongKind),
+    }
+}
+
+fn field_named(k: &Linked, h: &Heap, f: &mut Frame, r: Option<LinkedRef>, v: Value) -> HeapEffect
+    requires pc { f.old.pc < 65535 }
+    requires some { 0 < length f.old.stack.values }
+    ensures { Shares (field_named k.now h.now f.old r v (drop 1 f.old.stack.values)) result h.now h.now f.old f.new }
+{
+    match r {
+        Some(LinkedRef::Field(class, n)) => gets_field(k, h, f, class, n, v),
+        _ => HeapEffect::Stuck(StuckKind::WrongKind),
+    }
+}
+
+/// Pushes a field of the object on top.
+pub fn get_field(k: &Linked, h: &Heap, f: &mut Frame, r: Option<LinkedRef>) -> HeapEffect
+    requires { f.old.pc < 65535 }
+    ensures { Shares (get_field k.now h.now f.old r f.old.stack.values) result h.now h.now f.old f.new }
+{
+    match f.stack.top() {
+        None => HeapEffect::Stuck(StuckKind::Stack),
+        Some(v) => field_named(k, h, f, r, v),
+    }
+}
+
+/// Whether a value is of the kind of a field.
+fn fits_slot(slot: Option<&Slot>, v: Value) -> bool
+    ensures { result ≡ fits_slot (option_copied slot.entry) v }
+{
+    match slot {
+        None => false,
+        Some(slot) => v.is_kind(slot.kind),
+    }
+}
+
+fn set_field(o: &mut Object, n: u32, v: Value)
+    requires { n < length o.old.fields }
+    ensures { o.new ≡ with_field o.old n v }
+{
+    *o.fields.at_mut(n as usize) = v;
+}
+
+fn write(h: &mut Heap, f: &mut Frame, at: u32, n: u32, v: Value) -> HeapEffect
+    requires { f.old.pc < 65535 }
+    ensures { Shares (written h.old f.old at n v (drop 2 f.old.stack.values) (slice_get h.old.objects at)) result h.old h.new f.old f.new }
+{
+    match h.objects.get(at as usize) {
+        None => return HeapEffect::Stuck(StuckKind::WrongKind),
+        Some(o) => {
+            if n as usize >= o.fields.len() {
+                return HeapEffect::Stuck(StuckKind::WrongKind);
+            }
+        }
+    }
+    set_field(h.objects.at_mut(at as usize), n, v);
+    pop_off(f, 2);
+    HeapEffect::Done
+}
+
+fn puts_field(
+    k: &Linked,
+    h: &mut Heap,
+    f: &mut Frame,
+    class: u32,
+    n: u32,
+    v: Value,
+    o: Value,
+) -> HeapEffect
+    requires { f.old.pc < 65535 }
+    ensures { Shares (puts_field k.now h.old f.old class n v o (drop 2 f.old.stack.values)) result h.old h.new f.old f.new }
+{
+    match o {
+        Value::Ref { at, class: of } => {
+            if conforms(k.classes.as_slice(), of, class) {
+                write(h, f, at, n, v)
+            } else {
+                HeapEffect::Stuck(StuckKind::WrongKind)
+            }
+        }
+        Value::Null => HeapEffect::Fail(NULL_POINTER_EXCEPTION),
+        _ => HeapEffect::Stuck(StuckKind::WrongKind),
+    }
+}
+
+fn field_put(
+    k: &Linked,
+    h: &mut Heap,
+    f: &mut Frame,
+    r: Option<LinkedRef>,
+    v: Value,
+    o: Value,
+) -> HeapEffect
+    requires { f.old.pc < 65535 }
+    ensures { Shares (field_put k.now h.old f.old r v o (drop 2 f.old.stack.values)) result h.old h.new f.old f.new }
+{
+    match r {
+        Some(LinkedRef::Field(class, n)) => {
+            if fits_slot(slots_of(k.classes.as_slice(), class).get(n as usize), v) {
+                puts_field(k, h, f, class, n, v, o)
+            } else {
+                HeapEffect::Stuck(StuckKind::WrongKind)
+            }
+        }
+        _ => HeapEffect::Stuck(StuckKind::WrongKind),
+    }
+}
+
+/// Stores the value on top into a field of the object under it.
+pub fn put_field(k: &Linked, h: &mut Heap, f: &mut Frame, r: Option<LinkedRef>) -> HeapEffect
+    requires { f.old.pc < 65535 }
+    ensures { Shares (put_field k.now h.old f.old r f.old.stack.values) result h.old h.new f.old f.new }
+{
+    match f.stack.top_two() {
+        None => HeapEffect::Stuck(StuckKind::Stack),
+        Some((v, o)) => field_put(k, h, f, r, v, o),
+    }
+}

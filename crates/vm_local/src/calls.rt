@@ -1,0 +1,165 @@
+//! Which method a call runs (JVMS 6.5: invokevirtual, invokespecial, invokeinterface).
+
+ghost use Rattle.std.specs.Prelude.{◌≡◌, ◌+◌, ◌∷◌, ◌&&◌, drop, length, slice_get};
+ghost use Rattle.std.specs.Option.{option_copied};
+ghost use Rattle.cf_link.specs.Selection.{chosen_at};
+ghost use Rattle.vm_state.specs.Instructions.{Does};
+ghost use Rattle.vm_state.specs.Methods.{are_arguments, is_of, ref_at};
+ghost use Rattle.vm_state.specs.Local.{aims, aimed, selected, selection, received, invoked_on, invoked_as, invoked};
+
+use cf_form::Code;
+use cf_link::{
+    Linked, LinkedMethod, LinkedRef, Native, ValueKind, chosen, conforms, is_static, method_at,
+    methods_of, target,
+};
+use vm_state::{
+    Effect, Frame, Invocation, Operands, StuckKind, Target, Value, class_of, is_of, ref_at,
+};
+
+#[inline(always)]
+fn aim(f: &Frame, target: Target, count: usize, m: Option<&LinkedMethod>) -> Effect
+    ensures { Does (aimed f.now target count (option_copied m.entry)) result f.now f.now }
+{
+    match m {
+        None => Effect::Stuck(StuckKind::NoMethod),
+        Some(m) => match &m.code {
+            Some(_) => Effect::Call { target, count },
+            None => match m.native {
+                Some(_) => Effect::AtHeap,
+                None => Effect::Stuck(StuckKind::NoMethod),
+            },
+        },
+    }
+}
+
+#[inline(always)]
+fn select(k: &Linked, f: &Frame, count: usize, found: Option<(u32, u32)>) -> Effect
+    ensures { Does (selected k.now f.now count found) result f.now f.now }
+{
+    match found {
+        None => Effect::Stuck(StuckKind::NoMethod),
+        Some(found) => aim(
+            f,
+            Target {
+                class: found.0,
+                method: found.1,
+            },
+            count,
+            method_at(k.classes.as_slice(), found.0, found.1),
+        ),
+    }
+}
+
+/// The method that a class selects for one of a class or interface.
+fn chosen_at(k: &Linked, class: u32, of: u32, number: u32) -> Option<(u32, u32)>
+    ensures { result ≡ chosen_at k.now.classes class of number }
+{
+    let classes = k.classes.as_slice();
+    if conforms(classes, class, of) && (number as usize) < methods_of(classes, of).len() {
+        target(k, class, of, number)
+    } else {
+        chosen_by_name(k, class, of, number)
+    }
+}
+
+/// The same, found by name, for an object of a class that doesn't conform.
+fn chosen_by_name(k: &Linked, class: u32, of: u32, number: u32) -> Option<(u32, u32)>
+    ensures { result ≡ chosen_at k.now.classes class of number }
+{
+    match method_at(k.classes.as_slice(), of, number) {
+        Some(m) => chosen(k.classes.as_slice(), class, m),
+        None => None,
+    }
+}
+
+/// The method that runs: the one that is named, or the one that the object's class selects.
+#[inline(always)]
+fn selection(k: &Linked, how: Invocation, class: u32, of: u32, number: u32) -> Option<(u32, u32)>
+    ensures { result ≡ selection k.now how class of number }
+{
+    match how {
+        Invocation::Special => Some((of, number)),
+        _ => chosen_at(k, class, of, number),
+    }
+}
+
+#[inline(always)]
+fn receive(
+    k: &Linked,
+    f: &Frame,
+    how: Invocation,
+    of: u32,
+    number: u32,
+    count: usize,
+    v: Value,
+) -> Effect
+    ensures { Does (received k.now f.now how of number count v) result f.now f.now }
+{
+    if v.is_null() {
+        return Effect::AtHeap;
+    }
+    let found = selection(k, how, class_of(v), of, number);
+    select(k, f, count, found)
+}
+
+/// Whether the operands are arguments of these kinds, the last on top.
+#[inline(always)]
+pub fn are_arguments(kinds: &[ValueKind], stack: &Operands) -> bool
+    ensures { result ≡ are_arguments kinds.now stack.now.values }
+{
+    let mut left = kinds.len();
+    for kind in kinds {
+        left -= 1;
+        if !is_of(*kind, stack.get(left)) {
+            return false;
+        }
+    }
+    true
+}
+
+#[inline(always)]
+fn invoke_on(
+    k: &Linked,
+    f: &Frame,
+    how: Invocation,
+    of: u32,
+    number: u32,
+    m: &LinkedMethod,
+) -> Effect
+    ensures { Does (invoked_on k.now f.now how of number m.now (slice_get f.now.stack.values (length m.now.parameters))) result f.now f.now }
+{
+    let kinds = m.parameters.as_slice();
+    match f.stack.get(kinds.len()) {
+        None => Effect::Stuck(StuckKind::Stack),
+        Some(v) => {
+            if !is_static(m.access)
+                && (v.is_kind(ValueKind::Reference) && are_arguments(kinds, &f.stack))
+            {
+                receive(k, f, how, of, number, kinds.len() + 1, v)
+            } else {
+                Effect::Stuck(StuckKind::WrongKind)
+            }
+        }
+    }
+}
+
+#[inline(always)]
+fn invoke_ref(k: &Linked, f: &Frame, how: Invocation, r: Option<LinkedRef>) -> Effect
+    ensures { Does (invoked k.now f.now how r) result f.now f.now }
+{
+    match r {
+        Some(LinkedRef::Method(of, number)) => match method_at(k.classes.as_slice(), of, number) {
+            None => Effect::Stuck(StuckKind::NoMethod),
+            Some(m) => invoke_on(k, f, how, of, number, m),
+        },
+        _ => Effect::Stuck(StuckKind::WrongKind),
+    }
+}
+
+/// Calls a method on an object.
+#[inline(always)]
+pub fn invoke(k: &Linked, f: &mut Frame, how: Invocation, a: i32) -> Effect
+    ensures { Does (invoked k.now f.old how (ref_at k.now f.old.class a)) result f.old f.new }
+{
+    invoke_ref(k, f, how, ref_at(k, f.class, a))
+}

@@ -1,0 +1,10 @@
+pub mod Values
+pub mod Held
+pub mod Lends
+pub mod Actions
+pub mod Instructions
+pub mod Methods
+pub mod Local
+pub mod Heaps
+pub mod Shared
+pub mod Needing

@@ -1,0 +1,39 @@
+//! States of the machine for class files, and its step as a definition (JVMS 2.5, 2.6, 6).
+#![tactic(auto)]
+
+mod action;
+mod action_rows;
+mod actions;
+mod entering;
+mod frame;
+mod going;
+mod heap;
+mod laws;
+mod linkage;
+mod operands;
+mod outcomes;
+mod pushes;
+mod seq;
+mod stack;
+mod target;
+mod thread;
+mod value;
+
+pub use action::{Action, Comparison, Division, HeapAction, Invocation};
+pub use actions::{ACTIONS, OpAction, action_of};
+pub use entering::{begin, enter};
+pub use frame::Frame;
+pub use going::{branch, go, place};
+pub use heap::{Heap, Init, Object, State};
+pub use laws::rows;
+pub use linkage::{
+    class_of, code_of, instr_at, instr_in, is_initialiser, is_of, is_result, method_of, ref_at,
+};
+pub use operands::Operands;
+pub use outcomes::{Effect, HeapEffect, HeapMove, LocalStep, Readiness, StuckKind};
+pub use pushes::{pop_off, push, replace_top, skip};
+pub use seq::Seq;
+pub use stack::Stack;
+pub use target::Target;
+pub use thread::Thread;
+pub use value::{Value, kind_width};
