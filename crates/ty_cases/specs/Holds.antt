@@ -12,6 +12,9 @@ use Rattle.ty_good.specs.Forms.{HasForms}
 use Rattle.ty_good.specs.Names.{NamesMade}
 use Rattle.ty_good.specs.Traits.{MixinsFit, SupersStand, TraitsHaveRoom, TraitsLowered}
 use Rattle.ty_good.specs.Modules.{ModulesSet}
+use Rattle.ty_good.specs.LazyGets.{LazyGetsStand}
+use Rattle.ty_good.specs.TraitFields.{TraitFieldsStand}
+use Rattle.ty_good.specs.Accessors.{AccessorsFound}
 use Rattle.ty_good.specs.Selection.{SelectsFound}
 use Rattle.ty_cases.specs.declared.part.Part.{Part}
 use Rattle.ty_cases.specs.declared.part.Part.TheVariants as part
@@ -45,4 +48,7 @@ Holds part.SupersStand k p locals = SupersStand p
 Holds part.TraitsHaveRoom k p locals = TraitsHaveRoom k p
 Holds part.TraitsLowered k p locals = TraitsLowered k p
 Holds part.ModulesSet k p locals = ModulesSet k p
+Holds part.LazyGetsStand k p locals = LazyGetsStand k p
+Holds part.TraitFieldsStand k p locals = TraitFieldsStand k p
+Holds part.AccessorsFound k p locals = AccessorsFound k p
 Holds part.SelectsFound k p locals = SelectsFound k p

@@ -13,8 +13,9 @@ use ty_complete::{
 };
 use ty_flow::locals_are_set_first;
 use ty_good::{
-    has_forms, mixins_fit, modules_set, names_made, numbers_in_range, selects_found, supers_stand,
-    traits_have_room, traits_lowered,
+    accessors_found, has_forms, lazy_gets_stand, mixins_fit, modules_set, names_made,
+    numbers_in_range, selects_found, supers_stand, trait_fields_stand, traits_have_room,
+    traits_lowered,
 };
 use ty_prog::{NoMemory, Program};
 use ty_typed::{ClassLocals, is_typed_with};
@@ -58,6 +59,9 @@ pub(crate) fn holds(
         Part::TraitsHaveRoom => Ok(traits_have_room(k, p)),
         Part::TraitsLowered => traits_lowered(alloc, k, p),
         Part::ModulesSet => modules_set(alloc, k, p),
+        Part::LazyGetsStand => lazy_gets_stand(alloc, k, p),
+        Part::TraitFieldsStand => trait_fields_stand(alloc, k, p),
+        Part::AccessorsFound => accessors_found(alloc, k, p),
         Part::SelectsFound => selects_found(alloc, k, p),
     }
 }

@@ -30,11 +30,14 @@ pub(crate) enum Part {
     TraitsHaveRoom,
     TraitsLowered,
     ModulesSet,
+    LazyGetsStand,
+    TraitFieldsStand,
+    AccessorsFound,
     SelectsFound,
 }
 
 /// All of them, with their names.
-pub(crate) static PARTS: [(&str, Part); 28] = [
+pub(crate) static PARTS: [(&str, Part); 31] = [
     ("begins-with-prelude", Part::BeginsWithPrelude),
     ("files-differ", Part::FilesDiffer),
     ("names-fit", Part::NamesFit),
@@ -65,5 +68,8 @@ pub(crate) static PARTS: [(&str, Part); 28] = [
     ("traits-have-room", Part::TraitsHaveRoom),
     ("traits-lowered", Part::TraitsLowered),
     ("modules-set", Part::ModulesSet),
+    ("lazy-gets-stand", Part::LazyGetsStand),
+    ("trait-fields-stand", Part::TraitFieldsStand),
+    ("accessors-found", Part::AccessorsFound),
     ("selects-found", Part::SelectsFound),
 ];

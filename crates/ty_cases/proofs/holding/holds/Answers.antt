@@ -47,3 +47,18 @@ pub returns-in-SelectsFound : goal.returns-in-SelectsFound
 returns-in-SelectsFound c =
     subst (λ part. IfOk c.selects_found.result (λ answer. IsTrue answer ↔ Holds part c.args.k c.args.p.now c.args.locals.now))
     (sym c.in-SelectsFound.is) c.selects_found.ensures
+
+pub returns-in-LazyGetsStand : goal.returns-in-LazyGetsStand
+returns-in-LazyGetsStand c =
+    subst (λ part. IfOk c.lazy_gets_stand.result (λ answer. IsTrue answer ↔ Holds part c.args.k c.args.p.now c.args.locals.now))
+    (sym c.in-LazyGetsStand.is) c.lazy_gets_stand.ensures
+
+pub returns-in-TraitFieldsStand : goal.returns-in-TraitFieldsStand
+returns-in-TraitFieldsStand c =
+    subst (λ part. IfOk c.trait_fields_stand.result (λ answer. IsTrue answer ↔ Holds part c.args.k c.args.p.now c.args.locals.now))
+    (sym c.in-TraitFieldsStand.is) c.trait_fields_stand.ensures
+
+pub returns-in-AccessorsFound : goal.returns-in-AccessorsFound
+returns-in-AccessorsFound c =
+    subst (λ part. IfOk c.accessors_found.result (λ answer. IsTrue answer ↔ Holds part c.args.k c.args.p.now c.args.locals.now))
+    (sym c.in-AccessorsFound.is) c.accessors_found.ensures
