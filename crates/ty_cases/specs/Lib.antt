@@ -1,0 +1,3 @@
+-- What the answers of the program say.
+pub mod Holds
+pub mod Tells

@@ -1,9 +1,14 @@
 //! Answers to questions.
 
+ghost use Rattle.std.specs.Prelude.{◌≡◌, IfOk, string_bytes};
+ghost use Rattle.ty_cases.specs.Tells.{told};
+
+use crate::goodness::{good, room};
 use crate::members::{found, found_behind, linear};
 use crate::question::{Question, question_of};
-use crate::trees::{are_set, node};
-use crate::types::{conforming, inheriting, joined};
+use crate::trees::{are_same, are_set, node};
+use crate::types::{conforming, inheriting, joined, standing};
+use crate::values::{fitting, kind};
 use std::alloc::{AllocError, Global};
 use ty_text::{Parts, ProgramFault, Source, read_parts};
 
@@ -46,10 +51,18 @@ fn answer_to(
         Question::Linear => linear(alloc, source, parts),
         Question::SetFirst => are_set(alloc, parts),
         Question::At => node(alloc, source, parts),
+        Question::Good => good(alloc, source, parts),
+        Question::Room => room(alloc, source, parts),
+        Question::Stands => standing(alloc, source, parts),
+        Question::Fits => fitting(alloc, source, parts),
+        Question::Kind => kind(alloc, source, parts),
+        Question::Same => are_same(alloc, parts),
     }
 }
 
-pub(crate) fn yes_or_no(alloc: Global, yes: bool) -> Result<String, ProgramFault> {
+pub(crate) fn yes_or_no(alloc: Global, yes: bool) -> Result<String, ProgramFault>
+    ensures { IfOk result (λ text. string_bytes text ≡ told yes) }
+{
     Ok(String::from_str(alloc, if yes { "yes" } else { "no" })?)
 }
 

@@ -2,11 +2,16 @@
 #![tactic(auto)]
 
 mod answers;
+mod goodness;
+mod holding;
+mod locals;
 mod members;
+mod part;
 mod question;
 mod session;
 mod trees;
 mod types;
+mod values;
 
 use session::Session;
 use std::{env, fs, io};

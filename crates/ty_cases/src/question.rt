@@ -11,9 +11,15 @@ pub(crate) enum Question {
     Linear,
     SetFirst,
     At,
+    Good,
+    Room,
+    Stands,
+    Fits,
+    Kind,
+    Same,
 }
 
-static QUESTIONS: [(&str, Question); 8] = [
+static QUESTIONS: [(&str, Question); 14] = [
     ("conforms", Question::Conforms),
     ("inherits", Question::Inherits),
     ("join", Question::Join),
@@ -22,6 +28,12 @@ static QUESTIONS: [(&str, Question); 8] = [
     ("linear", Question::Linear),
     ("set-first", Question::SetFirst),
     ("at", Question::At),
+    ("good", Question::Good),
+    ("room", Question::Room),
+    ("stands", Question::Stands),
+    ("fits", Question::Fits),
+    ("kind", Question::Kind),
+    ("same", Question::Same),
 ];
 
 /// The question with this name.

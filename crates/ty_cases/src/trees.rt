@@ -5,6 +5,7 @@ use std::alloc::Global;
 use ty_flow::are_set_first;
 use ty_prog::{Class, Node, node_at};
 use ty_text::{Parts, ProgramFault, Source, Wanted};
+use ty_walk::same_tree;
 
 // `set-first GIVEN COUNT EXPRESSION`.
 pub(crate) fn are_set(alloc: Global, parts: &mut Parts) -> Result<String, ProgramFault> {
@@ -12,6 +13,13 @@ pub(crate) fn are_set(alloc: Global, parts: &mut Parts) -> Result<String, Progra
     let count = parts.number();
     let e = parts.expr();
     yes_or_no(alloc, are_set_first(given as usize, count, Node::Expr(&e)))
+}
+
+// `same EXPRESSION EXPRESSION`.
+pub(crate) fn are_same(alloc: Global, parts: &mut Parts) -> Result<String, ProgramFault> {
+    let one = parts.expr();
+    let other = parts.expr();
+    yes_or_no(alloc, same_tree(Node::Expr(&one), Node::Expr(&other)))
 }
 
 // The class that the next word names, which must be there.

@@ -6,6 +6,7 @@ use std::alloc::Global;
 use ty_conform::{conforms, inherits, join};
 use ty_prog::{Program, Ty};
 use ty_text::{Parts, ProgramFault, Source};
+use ty_typed::stands_for;
 
 // `conforms TYPE TYPE`.
 pub(crate) fn conforming(
@@ -16,6 +17,17 @@ pub(crate) fn conforming(
     let lower = parts.ty(&source.names);
     let upper = parts.ty(&source.names);
     yes_or_no(alloc, conforms(&source.program, &lower, &upper))
+}
+
+// `stands TYPE TYPE`: whether a value of the first may stand where one of the second is wanted.
+pub(crate) fn standing(
+    alloc: Global,
+    source: &Source,
+    parts: &mut Parts,
+) -> Result<String, ProgramFault> {
+    let lower = parts.ty(&source.names);
+    let upper = parts.ty(&source.names);
+    yes_or_no(alloc, stands_for(&source.program, lower, upper))
 }
 
 // `inherits CLASS CLASS`.
