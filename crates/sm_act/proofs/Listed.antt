@@ -27,19 +27,19 @@ drop_step xs made whole k was =
     ∙ ap (λ l. made ++ l) (drop_get xs k)
     ∙ was
 
-pub first_get_in : (args : List (Option Value)) (this : Value) → slice_get args 0 ≡ Some (Some this) → first_of args ≡ Some (this, drop 1 args)
-first_get_in [] this is = absurd (cc)
-first_get_in (None ∷ args) this is = absurd (cc)
-first_get_in (Some v ∷ args) this is = ap (λ v. Some (v, args)) (cc)
+pub first_is : (args : List (Option Value)) (this : Value) → slice_get args 0 ≡ Some (Some this) → first_of args ≡ Some (this, drop 1 args)
+first_is [] this is = absurd (cc)
+first_is (None ∷ args) this is = absurd (cc)
+first_is (Some v ∷ args) this is = ap (λ v. Some (v, args)) (cc)
 
-pub first_none_in : (args : List (Option Value)) → slice_get args 0 ≡ Some None → first_of args ≡ None
-first_none_in [] is = refl
-first_none_in (None ∷ args) is = refl
-first_none_in (Some v ∷ args) is = absurd (cc)
+pub first_unset : (args : List (Option Value)) → slice_get args 0 ≡ Some None → first_of args ≡ None
+first_unset [] is = refl
+first_unset (None ∷ args) is = refl
+first_unset (Some v ∷ args) is = absurd (cc)
 
-pub first_no_in : (args : List (Option Value)) → slice_get args 0 ≡ None → first_of args ≡ None
-first_no_in [] is = refl
-first_no_in (v ∷ args) is = absurd (cc)
+pub first_missing : (args : List (Option Value)) → slice_get args 0 ≡ None → first_of args ≡ None
+first_missing [] is = refl
+first_missing (v ∷ args) is = absurd (cc)
 
 -- what is done with the first argument
 pub with_first_of : (f : Value → List (Option Value) → Answer) (args rest : List (Option Value)) (this : Value) → Some (this, rest) ≡ first_of args → with_first f args ≡ f this rest

@@ -1,5 +1,5 @@
 -- For proofs only: what small functions give.
-use Rattle.std.specs.Prelude.{ℕ, Bool, true, false, List, [], ◌∷◌, Option, Some, None}
+use Rattle.std.specs.Prelude.{ℕ, Bool, true, false, List, ◌∷◌, Option, Some, None}
 use Rattle.ty_prog.specs.declared.program.Program.{Program}
 use Rattle.ty_prog.specs.declared.ty.Ty.{Ty}
 use Rattle.ty_prog.specs.declared.ty.Ty.TheVariants as ty

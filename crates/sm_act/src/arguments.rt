@@ -40,7 +40,7 @@ fn behind_first(alloc: Global, args: &Args) -> Result<Args, NoMemory>
 }
 
 /// The first argument and the others.
-#[tactic(auto, using(crate::proofs::Listed::first_get_in, crate::proofs::Listed::first_none_in, crate::proofs::Listed::first_no_in))]
+#[tactic(auto, using(crate::proofs::Listed::first_is, crate::proofs::Listed::first_unset, crate::proofs::Listed::first_missing))]
 pub(crate) fn first_of(alloc: Global, args: &Args) -> Result<Option<(Value, Args)>, NoMemory>
     ensures { IfOk result (λ found. found ≡ first_of args.now) }
 {

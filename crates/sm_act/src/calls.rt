@@ -204,12 +204,7 @@ fn superclass(p: &Program, class: u32) -> Option<u32>
 }
 
 /// The constructor of the superclass is entered, if there is one.
-pub(crate) fn construct_above(
-    p: &Program,
-    class: u32,
-    this: Value,
-    args: Args,
-) -> Answer
+pub(crate) fn construct_above(p: &Program, class: u32, this: Value, args: Args) -> Answer
     ensures { result ≡ constructs_above this args (superclass p.now class) }
 {
     match superclass(p, class) {

@@ -46,7 +46,12 @@ pub(crate) fn name_of(
     }
 }
 
-fn equals_called(alloc: Global, r: u32, other: Value, found: Option<(u32, u32)>) -> Result<Answer, NoMemory>
+fn equals_called(
+    alloc: Global,
+    r: u32,
+    other: Value,
+    found: Option<(u32, u32)>,
+) -> Result<Answer, NoMemory>
     ensures { IfOk result (λ a. a ≡ equals_called r other found) }
 {
     if found.is_none() {
@@ -58,7 +63,13 @@ fn equals_called(alloc: Global, r: u32, other: Value, found: Option<(u32, u32)>)
 }
 
 /// `==`.
-pub(crate) fn compare(alloc: Global, p: &Program, h: &Heap, one: &Value, other: Value) -> Result<Answer, NoMemory>
+pub(crate) fn compare(
+    alloc: Global,
+    p: &Program,
+    h: &Heap,
+    one: &Value,
+    other: Value,
+) -> Result<Answer, NoMemory>
     ensures { IfOk result (λ a. a ≡ compared p.now h.now one.now other) }
 {
     match one {
@@ -74,7 +85,13 @@ pub(crate) fn compare(alloc: Global, p: &Program, h: &Heap, one: &Value, other: 
 }
 
 /// A call of `equals`.
-pub(crate) fn call_equals(alloc: Global, p: &Program, h: &Heap, one: &Value, other: Value) -> Result<Answer, NoMemory>
+pub(crate) fn call_equals(
+    alloc: Global,
+    p: &Program,
+    h: &Heap,
+    one: &Value,
+    other: Value,
+) -> Result<Answer, NoMemory>
     ensures { IfOk result (λ a. a ≡ equals_answer p.now h.now one.now other) }
 {
     match one {
@@ -92,7 +109,13 @@ fn text_or_wrong(text: Option<Name>) -> Answer
     }
 }
 
-fn text_called(alloc: Global, p: &Program, r: u32, o: &Object, found: Option<(u32, u32)>) -> Result<Answer, NoMemory>
+fn text_called(
+    alloc: Global,
+    p: &Program,
+    r: u32,
+    o: &Object,
+    found: Option<(u32, u32)>,
+) -> Result<Answer, NoMemory>
     ensures { IfOk result (λ a. a ≡ text_called p.now r o.now found) }
 {
     match found {
@@ -128,14 +151,24 @@ pub(crate) fn to_string(alloc: Global, p: &Program, h: &Heap, v: &Value) -> Resu
 }
 
 /// The name of the class of a value.
-pub(crate) fn name_class(alloc: Global, p: &Program, h: &Heap, v: &Value) -> Result<Answer, NoMemory>
+pub(crate) fn name_class(
+    alloc: Global,
+    p: &Program,
+    h: &Heap,
+    v: &Value,
+) -> Result<Answer, NoMemory>
     ensures { IfOk result (λ a. a ≡ text_or_wrong (name_of p.now h.now v.now)) }
 {
     Ok(text_or_wrong(name_of(alloc, p, h, v)?))
 }
 
 /// No case matches.
-pub(crate) fn match_error(alloc: Global, p: &Program, h: &Heap, v: &Value) -> Result<Answer, NoMemory>
+pub(crate) fn match_error(
+    alloc: Global,
+    p: &Program,
+    h: &Heap,
+    v: &Value,
+) -> Result<Answer, NoMemory>
     ensures { IfOk result (λ a. a ≡ match_error (name_of p.now h.now v.now)) }
 {
     match name_of(alloc, p, h, v)? {

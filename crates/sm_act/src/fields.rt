@@ -6,8 +6,8 @@ ghost use Rattle.sm_rule.specs.Perform.{gives, throws, on_null, bad_cast, of_obj
 ghost use Rattle.sm_state.specs.Layout.{field_place};
 ghost use Rattle.sm_rule.specs.declared.answer.Edit.TheVariants as edit;
 
-use sm_decide::same;
 use sl_base::NoMemory;
+use sm_decide::same;
 use sm_rule::{Answer, Edit};
 use sm_state::{Heap, Object, Value, field_place};
 use std::alloc::Global;

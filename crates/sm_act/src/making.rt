@@ -24,12 +24,7 @@ pub(crate) fn number(len: usize) -> Result<u32, NoMemory>
 }
 
 /// A new object, before its constructor.
-pub(crate) fn make(
-    alloc: Global,
-    p: &Program,
-    h: &Heap,
-    class: u32,
-) -> Result<Answer, NoMemory>
+pub(crate) fn make(alloc: Global, p: &Program, h: &Heap, class: u32) -> Result<Answer, NoMemory>
     ensures { IfOk result (λ a. a ≡ answer.Gives (edit.AddObject (made p.now.classes class None)) (value.Ref (length h.now.objects))) }
 {
     let at = number(h.objects.len())?;

@@ -21,12 +21,7 @@ fn module_entry(alloc: Global, class: u32) -> Entry
 }
 
 /// A read of an object definition.
-pub(crate) fn read_module(
-    alloc: Global,
-    h: &Heap,
-    t: u32,
-    class: u32,
-) -> Result<Answer, NoMemory>
+pub(crate) fn read_module(alloc: Global, h: &Heap, t: u32, class: u32) -> Result<Answer, NoMemory>
     ensures { IfOk result (λ a. a ≡ module_read t class (slice_get h.now.modules class)) }
 {
     match h.modules.get(class as usize) {

@@ -33,13 +33,7 @@ fn print(t: u32, text: Name) -> Answer
 }
 
 /// What comes of an act of the thread with this number.
-pub fn perform(
-    alloc: Global,
-    p: &Program,
-    h: &Heap,
-    t: u32,
-    act: Act,
-) -> Result<Answer, NoMemory>
+pub fn perform(alloc: Global, p: &Program, h: &Heap, t: u32, act: Act) -> Result<Answer, NoMemory>
     ensures { IfOk result (λ a. a ≡ perform p.now h.now t act) }
 {
     match act {

@@ -1,4 +1,4 @@
-use Rattle.std.proofs.Common.{◌≡◌, pos, FitsSigned, ◌∙◌, ap, to_z-of_z}
+use Rattle.std.proofs.Common.{pos, FitsSigned, ◌∙◌, ap, to_z-of_z}
 use lib.IntN.{nat_abs}
 use Rattle.std.specs.Int.{int_rem_euclid, w32, w64}
 use Rattle.sm_act.proofs.Low.{low_wraps}
