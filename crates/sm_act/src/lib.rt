@@ -16,3 +16,6 @@ mod texts;
 
 pub use performing::perform;
 pub use sl_base::NoMemory;
+
+#[cfg(test)]
+mod tests;
