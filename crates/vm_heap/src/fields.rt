@@ -3,10 +3,10 @@
 ghost use Rattle.std.specs.Prelude.{◌≡◌, ◌∷◌, ◌<◌, ◌≤◌, length, drop, slice_get};
 ghost use Rattle.std.specs.Option.{option_copied};
 ghost use Rattle.vm_state.specs.Heaps.{field_at, with_field};
-ghost use Rattle.vm_state.specs.Shared.{Shares, got, gets_field, field_named, get_field, fits_slot, written, puts_field, field_put, put_field};
+ghost use Rattle.vm_state.specs.Shared.{Shares, got, is_slot_of, has_field, gets_field, field_named, get_field, fits_slot, written, puts_field, field_put, put_field};
 
 use cf_link::built_in::NULL_POINTER_EXCEPTION;
-use cf_link::{Linked, LinkedRef, Slot, conforms, slots_of};
+use cf_link::{Linked, LinkedRef, Slot, slots_of};
 use vm_state::{Effect, Frame, Heap, HeapEffect, Object, StuckKind, Value, pop_off, replace_top};
 
 fn field_at(h: &Heap, at: u32, n: u32) -> Option<Value>
@@ -37,6 +37,23 @@ fn read(h: &Heap, f: &mut Frame, v: Option<Value>) -> HeapEffect
     }
 }
 
+/// Whether a slot is that of a field of a class.
+fn is_slot_of(class: u32, slot: Option<&Slot>) -> bool
+    ensures { result ≡ is_slot_of class (option_copied slot.entry) }
+{
+    match slot {
+        None => false,
+        Some(slot) => slot.class == class,
+    }
+}
+
+/// Whether objects of a class have the field n of another.
+fn has_field(k: &Linked, of: u32, class: u32, n: u32) -> bool
+    ensures { result ≡ has_field k.now of class n }
+{
+    is_slot_of(class, slots_of(k.classes.as_slice(), of).get(n as usize))
+}
+
 fn gets_field(k: &Linked, h: &Heap, f: &mut Frame, class: u32, n: u32, v: Value) -> HeapEffect
     requires pc { f.old.pc < 65535 }
     requires some { 0 < length f.old.stack.values }
@@ -44,7 +61,7 @@ fn gets_field(k: &Linked, h: &Heap, f: &mut Frame, class: u32, n: u32, v: Value)
 {
     match v {
         Value::Ref { at, class: of } => {
-            if conforms(k.classes.as_slice(), of, class) {
+            if has_field(k, of, class, n) {
                 read(h, f, field_at(h, at, n))
             } else {
                 HeapEffect::Stuck(StuckKind::WrongKind)
@@ -125,7 +142,7 @@ fn puts_field(
 {
     match o {
         Value::Ref { at, class: of } => {
-            if conforms(k.classes.as_slice(), of, class) {
+            if has_field(k, of, class, n) {
                 write(h, f, at, n, v)
             } else {
                 HeapEffect::Stuck(StuckKind::WrongKind)

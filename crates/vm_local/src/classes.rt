@@ -3,9 +3,9 @@
 ghost use Rattle.std.specs.Prelude.{◌≡◌, ◌<◌, ◌≤◌, ◌∷◌, drop, length};
 ghost use Rattle.vm_state.specs.Instructions.{Does, next};
 ghost use Rattle.vm_state.specs.Methods.{ref_at};
-ghost use Rattle.vm_state.specs.Local.{constant, cast, class_cast, check_cast, is_evaluating, is_instance, truth, class_tested, instance_of};
+ghost use Rattle.vm_state.specs.Local.{constant, cast, class_cast, check_cast, is_evaluating, is_latch, is_instance, truth, class_tested, instance_of};
 
-use cf_link::built_in::EVALUATING;
+use cf_link::built_in::{EVALUATING, LATCH};
 use cf_link::{Linked, LinkedRef, ValueKind, conforms};
 use vm_state::{Effect, Frame, StuckKind, Value, class_of, push, ref_at, skip};
 
@@ -74,13 +74,26 @@ fn is_evaluating(v: Value) -> bool
     }
 }
 
+fn is_latch(v: Value) -> bool
+    ensures { result ≡ is_latch v }
+{
+    match v {
+        Value::Latch { .. } => true,
+        _ => false,
+    }
+}
+
 /// Whether a value is an instance of a class.
 fn is_instance(k: &Linked, v: Value, class: u32) -> bool
     ensures { result ≡ is_instance k.now v class }
 {
-    !v.is_null()
-        && (conforms(k.classes.as_slice(), class_of(v), class)
-            || (is_evaluating(v) && class == EVALUATING))
+    if class == EVALUATING {
+        is_evaluating(v)
+    } else if class == LATCH {
+        is_latch(v)
+    } else {
+        !v.is_null() && conforms(k.classes.as_slice(), class_of(v), class)
+    }
 }
 
 #[inline(always)]

@@ -10,7 +10,7 @@ use Rattle.cf_link.specs.declared.reference.LinkedRef.{LinkedRef}
 use Rattle.cf_link.specs.declared.reference.LinkedRef.TheVariants as ref
 use Rattle.cf_link.specs.declared.value_kind.ValueKind.{ValueKind}
 use Rattle.cf_link.specs.declared.value_kind.ValueKind.TheVariants as kind
-use Rattle.cf_link.specs.declared.built_in.TheConstants.{THROWABLE, EVALUATING}
+use Rattle.cf_link.specs.declared.built_in.TheConstants.{THROWABLE, LATCH, EVALUATING}
 use Rattle.cf_link.specs.Classes.{is_static, method_at, conforms}
 use Rattle.cf_link.specs.Selection.{chosen_at}
 use Rattle.vm_state.specs.declared.value.Value.{Value}
@@ -58,10 +58,17 @@ abbrev pub is_evaluating : Value → Bool
 is_evaluating (value.Evaluating thread) = true
 is_evaluating _ = false
 
--- not null, and of a class that conforms; a value that names a thread is an `Evaluating` beside
+abbrev pub is_latch : Value → Bool
+is_latch (value.Latch at owner) = true
+is_latch _ = false
+
+-- a value that names a thread is an `Evaluating`, and a latch a `Latch`, and nothing else is; of other classes a value
+-- that isn't null and whose class conforms
 abbrev pub is_instance : Linked → Value → ℕ → Bool
 is_instance k v class =
-    not (is_null v) && (conforms k.classes (class_of v) class || (is_evaluating v && nat_eq class EVALUATING))
+    if nat_eq class EVALUATING then is_evaluating v
+    else if nat_eq class LATCH then is_latch v
+    else not (is_null v) && conforms k.classes (class_of v) class
 
 abbrev pub truth : Bool → Value
 truth b = value.Int (pos (if b then 1 else 0))

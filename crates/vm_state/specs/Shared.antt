@@ -9,7 +9,7 @@ use Rattle.cf_link.specs.declared.member.Slot.{Slot}
 use Rattle.cf_link.specs.declared.reference.LinkedRef.{LinkedRef}
 use Rattle.cf_link.specs.declared.reference.LinkedRef.TheVariants as ref
 use Rattle.cf_link.specs.declared.built_in.TheConstants.{NULL_POINTER_EXCEPTION, NO_CLASS_DEF_FOUND_ERROR}
-use Rattle.cf_link.specs.Classes.{conforms, slots_of, statics_of}
+use Rattle.cf_link.specs.Classes.{slots_of, statics_of}
 use Rattle.vm_state.specs.declared.value.Value.{Value}
 use Rattle.vm_state.specs.declared.value.Value.TheVariants as value
 use Rattle.vm_state.specs.declared.frame.Frame.{Frame}
@@ -67,10 +67,19 @@ abbrev pub got : Heap → Frame → List Value → Option Value → Shared
 got h f vs None = rests h f (Stuck WrongKind)
 got h f vs (Some v) = goes_on h h f (pushed f vs v)
 
--- a field of an object of a class that has it; on null an exception is made
+-- whether a slot is that of a field of a class
+abbrev pub is_slot_of : ℕ → Option Slot → Bool
+is_slot_of class None = false
+is_slot_of class (Some slot) = nat_eq slot.class class
+
+-- whether objects of a class have the field n of another: their slot n is that field's
+abbrev pub has_field : Linked → ℕ → ℕ → ℕ → Bool
+has_field k of class n = is_slot_of class (slice_get (slots_of k.classes of) n)
+
+-- a field of an object that has it; on null an exception is made
 abbrev pub gets_field : Linked → Heap → Frame → ℕ → ℕ → Value → List Value → Shared
 gets_field k h f class n (value.Ref at of) vs =
-    if conforms k.classes of class then got h f vs (field_at h at n) else rests h f (Stuck WrongKind)
+    if has_field k of class n then got h f vs (field_at h at n) else rests h f (Stuck WrongKind)
 gets_field k h f class n value.Null vs = rests h f (Fail NULL_POINTER_EXCEPTION)
 gets_field k h f class n _ vs = rests h f (Stuck WrongKind)
 
@@ -97,7 +106,7 @@ written h f at n v vs (Some o) =
 
 abbrev pub puts_field : Linked → Heap → Frame → ℕ → ℕ → Value → Value → List Value → Shared
 puts_field k h f class n v (value.Ref at of) vs =
-    if conforms k.classes of class then written h f at n v vs (slice_get h.objects at) else rests h f (Stuck WrongKind)
+    if has_field k of class n then written h f at n v vs (slice_get h.objects at) else rests h f (Stuck WrongKind)
 puts_field k h f class n v value.Null vs = rests h f (Fail NULL_POINTER_EXCEPTION)
 puts_field k h f class n v _ vs = rests h f (Stuck WrongKind)
 
