@@ -1,6 +1,6 @@
 -- The threads of a program as a system over one heap: whom a thread waits for, and where.
-use Rattle.std.specs.Prelude.{ℕ, zero, suc, ◌+◌, ◌-◌, ◌==◌, ◌&&◌, ◌||◌, Bool, true, false, if◌then◌else◌, nat_eq, List, [], ◌∷◌, ◌++◌, take, length, codes, Option, Some, None, option_map, slice_get}
-use Rattle.std.specs.Option.{option_and_then, unwrap_or}
+use Rattle.std.specs.Prelude.{ℕ, zero, suc, ◌+◌, ◌-◌, ◌==◌, ◌&&◌, ◌||◌, Bool, true, false, if◌then◌else◌, nat_eq, is_some, List, [], ◌∷◌, ◌++◌, take, length, codes, Option, Some, None, option_map, slice_get}
+use Rattle.std.specs.Option.{option_and_then, option_or, unwrap_or}
 use Rattle.std.specs.Str.{bytes_eq}
 use Rattle.runs.specs.System.{Next, Goes, Waits, Ended, Stuck, System}
 use Rattle.runs.specs.SharedHeap.{SharedHeap, HeapState, Stepped, system_of}
@@ -8,7 +8,7 @@ use Rattle.ty_prog.specs.Shape.{shape}
 use Rattle.ty_prog.specs.declared.event.Event.{Event}
 use Rattle.ty_prog.specs.declared.program.Program.{Program}
 use Rattle.sm_state.specs.Entering.{first_heap, main_context, begun_thread, method_at}
-use Rattle.sm_state.specs.Layout.{cell_place}
+use Rattle.sm_state.specs.Layout.{linear_of, cell_place}
 use Rattle.sm_state.specs.declared.heap.Heap.{Heap}
 use Rattle.sm_state.specs.declared.heap.Object.{Object}
 use Rattle.sm_state.specs.declared.module.Module.{Module}
@@ -26,9 +26,8 @@ use Rattle.sm_rule.specs.declared.act.Act.{Act}
 use Rattle.sm_rule.specs.declared.act.Act.TheVariants as act
 use Rattle.sm_rule.specs.declared.moves.Move.{Move}
 use Rattle.sm_rule.specs.declared.moves.Move.TheVariants as move
-use Rattle.sm_rule.specs.Values.{same}
 use Rattle.sm_rule.specs.Moves.{kept, begun, received}
-use Rattle.sm_rule.specs.Perform.{class_name}
+use Rattle.sm_rule.specs.Perform.{has, class_name, superclass_at}
 use Rattle.sm_rule.specs.Step.{awaits_object, sight, step}
 
 -- ---- the act that a thread's next move makes, if it makes one
@@ -55,14 +54,26 @@ act_at p (c ∷ cs) (Some v) None = receive_act c v c.levels
 abbrev pub next_act : Program → Thread → Option Act
 next_act p th = act_at p th.contexts th.value th.thrown
 
--- ---- where a thread waits: at a lazy member, by class and name, or at an object definition, by its name
+-- ---- where a thread waits: at a lazy member, by its name and the class that has its accessor, or at an object definition,
+-- by its name
 
 abbrev pub member_name : Program → ℕ → Option (List ℕ) → List ℕ
 member_name p class name = unwrap_or (class_name p class) [] ++ codes "." ++ unwrap_or name []
 
-abbrev pub cell_name : Program → ℕ → ℕ → List ℕ
-cell_name p class cell =
-    member_name p class (option_and_then (λ c. option_map (λ k. k.name) (slice_get c.cells cell)) (slice_get p.classes class))
+-- whether a template is no trait and has another, or itself, in its linearisation
+abbrev pub is_home : Program → ℕ → ℕ → Bool
+is_home p class above = is_some (superclass_at p above) && has class (linear_of p.classes above)
+
+-- the topmost such template in a linearisation: a class itself, and for a trait the class that first mixes it in
+abbrev pub home_in : Program → ℕ → List ℕ → Option ℕ
+home_in p class [] = None
+home_in p class (above ∷ linear) = option_or (home_in p class linear) (if is_home p class above then Some above else None)
+
+abbrev pub cell_name : Program → ℕ → ℕ → Option Object → List ℕ
+cell_name p class cell None = []
+cell_name p class cell (Some o) =
+    member_name p (unwrap_or (home_in p class (linear_of p.classes o.class)) class)
+      (option_and_then (λ c. option_map (λ k. k.name) (slice_get c.cells cell)) (slice_get p.classes class))
 
 -- the name of the method that a context is in
 abbrev pub method_name : Program → ℕ → Part → Option (List ℕ)
@@ -73,11 +84,11 @@ abbrev pub top_name : Program → List Context → List ℕ
 top_name p [] = []
 top_name p (c ∷ cs) = member_name p c.class (method_name p c.class c.part)
 
-abbrev pub place_of : Program → Thread → Option Act → List ℕ
-place_of p th (Some (act.ReadCell of class cell)) = cell_name p class cell
-place_of p th (Some (act.ReadModule class)) = unwrap_or (class_name p class) []
-place_of p th (Some (act.Await v)) = top_name p th.contexts
-place_of p th other = []
+abbrev pub place_of : Program → Heap → Thread → Option Act → List ℕ
+place_of p h th (Some (act.ReadCell (value.Ref r) class cell)) = cell_name p class cell (slice_get h.objects r)
+place_of p h th (Some (act.ReadModule class)) = unwrap_or (class_name p class) []
+place_of p h th (Some (act.Await v)) = top_name p th.contexts
+place_of p h th other = []
 
 -- ---- whom it waits for: who runs the initialiser of the cell or the initialisation of the object; and at a latch, who
 -- runs the method `x$init` of the class and object whose method `x` awaits it
@@ -99,9 +110,14 @@ abbrev pub names_init : Option (List ℕ) → Option (List ℕ) → Bool
 names_init (Some x) (Some y) = bytes_eq (x ++ codes "$init") y
 names_init other y = false
 
+-- the same object; a static method has none
+abbrev pub is_same_object : Value → Value → Bool
+is_same_object (value.Ref r) (value.Ref q) = r == q
+is_same_object one other = false
+
 abbrev pub initialises : Program → Context → Context → Bool
 initialises p c d =
-    (d.class == c.class) && same d.this c.this && names_init (method_name p c.class c.part) (method_name p d.class d.part)
+    (d.class == c.class) && is_same_object d.this c.this && names_init (method_name p c.class c.part) (method_name p d.class d.part)
 
 abbrev pub some_initialises : Program → Context → List Context → Bool
 some_initialises p c [] = false
@@ -134,7 +150,7 @@ same_part part.Constructor part.Constructor = true
 same_part _ _ = false
 
 abbrev pub frees_at : ℕ → List Context → List Context → Bool
-frees_at at (c ∷ cs) (d ∷ ds) = (d.class == c.class) && same_part d.part c.part && same d.this c.this && has_latch at d.locals
+frees_at at (c ∷ cs) (d ∷ ds) = (d.class == c.class) && same_part d.part c.part && is_same_object d.this c.this && has_latch at d.locals
 frees_at at _ _ = false
 
 abbrev pub is_closed : Option Bool → Bool
@@ -173,7 +189,7 @@ machine p = record {
   step = step p;
   inits = λ t h th. inits_of th (step p t h th);
   trace = λ h. h.trace;
-  place = λ h th. place_of p th (next_act p th);
+  place = λ h th. place_of p h th (next_act p th);
   blocks = λ h x u y. blocked_by p h x u y (next_act p x);
   opens = λ h y x. opens_for h y x (next_act p x);
 }
