@@ -73,7 +73,7 @@ abbrev pub cell_name : Program → ℕ → ℕ → Option Object → List ℕ
 cell_name p class cell None = []
 cell_name p class cell (Some o) =
     member_name p (unwrap_or (home_in p class (linear_of p.classes o.class)) class)
-      (option_and_then (λ c. option_map (λ k. k.name) (slice_get c.cells cell)) (slice_get p.classes class))
+    (option_and_then (λ c. option_map (λ k. k.name) (slice_get c.cells cell)) (slice_get p.classes class))
 
 -- the name of the method that a context is in
 abbrev pub method_name : Program → ℕ → Part → Option (List ℕ)
