@@ -29,5 +29,6 @@ number_before end bytes = option_and_then (λ parts. option_map (λ n. (n, parts
 abbrev pub turn_before : ℕ → List ℕ → Option (Turn × List ℕ)
 turn_before thread bytes = option_map (λ found. (record { thread = thread; count = found.0 }, found.1)) (number_before 10 bytes)
 
+-- the same with its thread, which stands first in the line
 abbrev pub turn_in_front : List ℕ → Option (Turn × List ℕ)
 turn_in_front bytes = option_and_then (λ found. turn_before found.0 found.1) (number_before 32 bytes)
