@@ -5,7 +5,7 @@ use Rattle.std.specs.Int.{w8, w16, w32, to_be_bytes, cast_unsigned}
 use Rattle.cf_form.specs.Opcodes.{shape_of}
 use Rattle.cf_form.specs.declared.instr.Instr.{Instr}
 use Rattle.cf_form.specs.declared.shape.Shape.{Shape}
-use Rattle.cf_form.specs.declared.shape.Shape.TheVariants.{Plain, S1, S2, Pool1, Pool2, Local, Step, Jump2, Jump4, Face, Wide}
+use Rattle.cf_form.specs.declared.shape.Shape.TheVariants.{Plain, Signed1, Signed2, Pool1, Pool2, Local, Step, Jump2, Jump4, Face, Wide}
 
 -- a number in one byte; below 0 in two's complement
 abbrev pub one : ℤ → List ℕ
@@ -22,8 +22,8 @@ four x = to_be_bytes w32 (cast_unsigned w32 x)
 -- the operands a and b of a shape, plain and after `wide`
 abbrev pub operands : Shape → Bool → ℤ → ℤ → List ℕ
 operands Plain wide a b = []
-operands S1 wide a b = one a
-operands S2 wide a b = two a
+operands Signed1 wide a b = one a
+operands Signed2 wide a b = two a
 operands Pool1 wide a b = one a
 operands Pool2 wide a b = two a
 operands Local false a b = one a
@@ -60,8 +60,8 @@ Is2 x = (pos 0 ≤ℤ x) × (x <ℤ pos 65536)
 -- what a and b may be; an operand that the shape doesn't have is 0, and only loads, stores and `iinc` stand after `wide`
 abbrev pub OperandsFit : Shape → Bool → ℤ → ℤ → Type 0
 OperandsFit Plain wide a b = (wide ≡ false) × (a ≡ pos 0) × (b ≡ pos 0)
-OperandsFit S1 wide a b = (wide ≡ false) × FitsSigned w8 a × (b ≡ pos 0)
-OperandsFit S2 wide a b = (wide ≡ false) × FitsSigned w16 a × (b ≡ pos 0)
+OperandsFit Signed1 wide a b = (wide ≡ false) × FitsSigned w8 a × (b ≡ pos 0)
+OperandsFit Signed2 wide a b = (wide ≡ false) × FitsSigned w16 a × (b ≡ pos 0)
 OperandsFit Pool1 wide a b = (wide ≡ false) × Is1 a × (b ≡ pos 0)
 OperandsFit Pool2 wide a b = (wide ≡ false) × Is2 a × (b ≡ pos 0)
 OperandsFit Local false a b = Is1 a × (b ≡ pos 0)

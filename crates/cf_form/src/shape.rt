@@ -6,9 +6,9 @@ pub enum Shape {
     /// Nothing.
     Plain,
     /// A signed byte.
-    S1,
+    Signed1,
     /// Two signed bytes.
-    S2,
+    Signed2,
     /// An index of the constant pool, in one byte.
     Pool1,
     /// An index of the constant pool, in two bytes.

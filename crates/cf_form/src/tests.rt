@@ -16,8 +16,8 @@ static LINES: &str = "\
 08 iconst_5 Plain\n\
 09 lconst_0 Plain\n\
 0a lconst_1 Plain\n\
-10 bipush S1\n\
-11 sipush S2\n\
+10 bipush Signed1\n\
+11 sipush Signed2\n\
 12 ldc Pool1\n\
 13 ldc_w Pool2\n\
 14 ldc2_w Pool2\n\

@@ -3,7 +3,7 @@ use Rattle.std.proofs.Common.{◌≡◌, ℕ, ◌≤◌, ◌<◌, ℤ, pos, Bool
 use Rattle.std.specs.Prelude.{IsTrue, ◌≢◌, Result, Ok, Err, MatchResult}
 use Rattle.cf_form.specs.declared.instr.Instr.{Instr}
 use Rattle.cf_form.specs.declared.shape.Shape.{Shape}
-use Rattle.cf_form.specs.declared.shape.Shape.TheVariants.{Plain, S1, S2, Pool1, Pool2, Local, Step, Jump2, Jump4, Face, Wide}
+use Rattle.cf_form.specs.declared.shape.Shape.TheVariants.{Plain, Signed1, Signed2, Pool1, Pool2, Local, Step, Jump2, Jump4, Face, Wide}
 use Rattle.cf_form.specs.Opcodes.{shape_of}
 use Rattle.cf_form.specs.Instructions.{operands, OperandsFit, bytes_by, bytes_of, FitsBy, Fits, wide_opcode}
 use Rattle.cf_instr.specs.declared.code_fault.CodeKind.{CodeKind}
@@ -52,8 +52,8 @@ missed op false Face bytes kinds.Shape e ok h m =
     record { op = op; high = m.0; low = m.1; count = m.2; last = m.3; more = m.4; parts = ap (λ (t : List ℕ). op ∷ t) m.5; face = e; wrong = m.6 }
 missed op true Face bytes kinds.Shape e ok h m = absurd cc
 missed op w Plain bytes kinds.Shape e ok h m = absurd m
-missed op w S1 bytes kinds.Shape e ok h m = absurd m
-missed op w S2 bytes kinds.Shape e ok h m = absurd m
+missed op w Signed1 bytes kinds.Shape e ok h m = absurd m
+missed op w Signed2 bytes kinds.Shape e ok h m = absurd m
 missed op w Pool1 bytes kinds.Shape e ok h m = absurd m
 missed op w Pool2 bytes kinds.Shape e ok h m = absurd m
 missed op w Local bytes kinds.Shape e ok h m = absurd m
@@ -67,8 +67,8 @@ missed op w s bytes kinds.Memory e ok h m = absurd m
 
 pub allows-plain : (s : Shape) → s ≢ Wide → IsTrue (allows s false)
 allows-plain Plain h = refl
-allows-plain S1 h = refl
-allows-plain S2 h = refl
+allows-plain Signed1 h = refl
+allows-plain Signed2 h = refl
 allows-plain Pool1 h = refl
 allows-plain Pool2 h = refl
 allows-plain Local h = refl

@@ -3,7 +3,7 @@ use Rattle.std.proofs.Common.{◌≡◌, ℕ, ◌+◌, ◌≤◌, ℤ, Bool, tru
 use Rattle.std.specs.Prelude.{IsTrue}
 use Rattle.std.proofs.lemmas.List.{length-append, append-nil}
 use Rattle.cf_form.specs.declared.shape.Shape.{Shape}
-use Rattle.cf_form.specs.declared.shape.Shape.TheVariants.{Plain, S1, S2, Pool1, Pool2, Local, Step, Jump2, Jump4, Face, Wide}
+use Rattle.cf_form.specs.declared.shape.Shape.TheVariants.{Plain, Signed1, Signed2, Pool1, Pool2, Local, Step, Jump2, Jump4, Face, Wide}
 use Rattle.cf_form.specs.Opcodes.{shape_of}
 use Rattle.cf_form.specs.Instructions.{operands, bytes_of, wide_opcode}
 use Rattle.cf_instr.specs.declared.code_fault.CodeKind.{CodeKind}
@@ -18,8 +18,8 @@ use Rattle.cf_instr.proofs.Parsing.{seen, one_instr, Stuck}
 
 widens-allowed : (s : Shape) → IsTrue (allows s true) → widens (Some s) ≡ true
 widens-allowed Plain h = absurd cc
-widens-allowed S1 h = absurd cc
-widens-allowed S2 h = absurd cc
+widens-allowed Signed1 h = absurd cc
+widens-allowed Signed2 h = absurd cc
 widens-allowed Pool1 h = absurd cc
 widens-allowed Pool2 h = absurd cc
 widens-allowed Local h = refl

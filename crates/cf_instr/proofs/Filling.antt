@@ -6,7 +6,7 @@ use Rattle.std.proofs.lemmas.Int.{of_z-to_z, ints}
 use Rattle.std.proofs.lemmas.Nat.{be_bytes_2, be_bytes_4}
 use Rattle.std.proofs.lemmas.List.{length-append, length-replicate}
 use Rattle.cf_form.specs.declared.shape.Shape.{Shape}
-use Rattle.cf_form.specs.declared.shape.Shape.TheVariants.{Plain, S1, S2, Pool1, Pool2, Local, Step, Jump2, Jump4, Face, Wide}
+use Rattle.cf_form.specs.declared.shape.Shape.TheVariants.{Plain, Signed1, Signed2, Pool1, Pool2, Local, Step, Jump2, Jump4, Face, Wide}
 use Rattle.cf_form.specs.Instructions.{one, two, four, Is1, Is2, operands, OperandsFit}
 use Rattle.cf_instr.specs.Reading.{width}
 
@@ -106,10 +106,10 @@ filled : (s : Shape) (w : Bool) → IsTrue (allows s w) → (xs : List ℕ) → 
 filled Plain false ok [] h e z = (pos 0, pos 0, (refl, refl, refl), refl)
 filled Plain false ok (x ∷ xs) h e z = absurd (omega arith)
 filled Plain true ok xs h e z = absurd cc
-filled S1 false ok xs h e z = alone S1 false xs _ one (cells1 xs e) (fill1s _ (h 0)) (λ a f. (refl, f, refl)) (λ a. refl)
-filled S1 true ok xs h e z = absurd cc
-filled S2 false ok xs h e z = alone S2 false xs _ two (cells2 xs e) (fill2s _ _ (h 0) (h 1)) (λ a f. (refl, f, refl)) (λ a. refl)
-filled S2 true ok xs h e z = absurd cc
+filled Signed1 false ok xs h e z = alone Signed1 false xs _ one (cells1 xs e) (fill1s _ (h 0)) (λ a f. (refl, f, refl)) (λ a. refl)
+filled Signed1 true ok xs h e z = absurd cc
+filled Signed2 false ok xs h e z = alone Signed2 false xs _ two (cells2 xs e) (fill2s _ _ (h 0) (h 1)) (λ a f. (refl, f, refl)) (λ a. refl)
+filled Signed2 true ok xs h e z = absurd cc
 filled Pool1 false ok xs h e z = alone Pool1 false xs _ one (cells1 xs e) (fill1 _ (h 0)) (λ a f. (refl, f, refl)) (λ a. refl)
 filled Pool1 true ok xs h e z = absurd cc
 filled Pool2 false ok xs h e z = alone Pool2 false xs _ two (cells2 xs e) (fill2 _ _ (h 0) (h 1)) (λ a f. (refl, f, refl)) (λ a. refl)

@@ -8,7 +8,7 @@ use Rattle.std.proofs.lemmas.Nat.{from_be_bytes-to_be_bytes_2, from_be_bytes-to_
 use Rattle.std.proofs.lemmas.List.{length-append}
 use Rattle.cf_form.specs.declared.instr.Instr.{Instr}
 use Rattle.cf_form.specs.declared.shape.Shape.{Shape}
-use Rattle.cf_form.specs.declared.shape.Shape.TheVariants.{Plain, S1, S2, Pool1, Pool2, Local, Step, Jump2, Jump4, Face, Wide}
+use Rattle.cf_form.specs.declared.shape.Shape.TheVariants.{Plain, Signed1, Signed2, Pool1, Pool2, Local, Step, Jump2, Jump4, Face, Wide}
 use Rattle.cf_form.specs.Opcodes.{shape_of}
 use Rattle.cf_form.specs.Instructions.{one, two, four, Is1, Is2, operands, OperandsFit, bytes_of, FitsBy, Fits, size, wide_opcode}
 use Rattle.cf_instr.proofs.Filling.{allows, byte_again}
@@ -84,8 +84,8 @@ SameOperands s w = (a b a' b' : ℤ) (r r' : List ℕ) → OperandsFit s w a b �
 
 same_operands : (s : Shape) (w : Bool) → SameOperands s w
 same_operands Plain w a b a' b' r r' h k e = (h.1 ∙ sym k.1, h.2 ∙ sym k.2, e)
-same_operands S1 w a b a' b' r r' h k e = let p = same1s a a' r r' h.1 k.1 e in (p.0, h.2 ∙ sym k.2, p.1)
-same_operands S2 w a b a' b' r r' h k e = let p = same2s a a' r r' h.1 k.1 e in (p.0, h.2 ∙ sym k.2, p.1)
+same_operands Signed1 w a b a' b' r r' h k e = let p = same1s a a' r r' h.1 k.1 e in (p.0, h.2 ∙ sym k.2, p.1)
+same_operands Signed2 w a b a' b' r r' h k e = let p = same2s a a' r r' h.1 k.1 e in (p.0, h.2 ∙ sym k.2, p.1)
 same_operands Pool1 w a b a' b' r r' h k e = let p = same1 a a' r r' h.1 k.1 e in (p.0, h.2 ∙ sym k.2, p.1)
 same_operands Pool2 w a b a' b' r r' h k e = let p = same2 a a' r r' h.1 k.1 e in (p.0, h.2 ∙ sym k.2, p.1)
 same_operands Local false a b a' b' r r' h k e = let p = same1 a a' r r' h.0 k.0 e in (p.0, h.1 ∙ sym k.1, p.1)
@@ -118,8 +118,8 @@ narrow w e = ap not e
 
 allowed : (s : Shape) (w : Bool) (a b : ℤ) → OperandsFit s w a b → IsTrue (allows s w)
 allowed Plain w a b h = narrow w h.0
-allowed S1 w a b h = narrow w h.0
-allowed S2 w a b h = narrow w h.0
+allowed Signed1 w a b h = narrow w h.0
+allowed Signed2 w a b h = narrow w h.0
 allowed Pool1 w a b h = narrow w h.0
 allowed Pool2 w a b h = narrow w h.0
 allowed Local w a b h = refl

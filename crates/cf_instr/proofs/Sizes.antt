@@ -8,7 +8,7 @@ use Rattle.std.proofs.lemmas.List.Concat.{flat_map-append, length-flat_map}
 use Rattle.std.proofs.lemmas.List.Sums.{sum_by-cons, sum_by_more}
 use Rattle.cf_form.specs.declared.instr.Instr.{Instr}
 use Rattle.cf_form.specs.declared.shape.Shape.{Shape}
-use Rattle.cf_form.specs.declared.shape.Shape.TheVariants.{Plain, S1, S2, Pool1, Pool2, Local, Step, Jump2, Jump4, Face, Wide}
+use Rattle.cf_form.specs.declared.shape.Shape.TheVariants.{Plain, Signed1, Signed2, Pool1, Pool2, Local, Step, Jump2, Jump4, Face, Wide}
 use Rattle.cf_form.specs.Opcodes.{shape_of}
 use Rattle.cf_form.specs.Instructions.{operands, bytes_by, bytes_of, FitsBy, Fits, size, offset}
 use Rattle.cf_instr.specs.Reading.{width}
@@ -18,8 +18,8 @@ use Rattle.cf_instr.specs.Raws.{AreStarts, AreRaws, AreApart, AreOffsetsTo}
 -- operands are as wide as their shape has it
 pub width-is : (s : Shape) (w : Bool) (a b : ℤ) → length (operands s w a b) ≡ width s w
 width-is Plain w a b = refl
-width-is S1 w a b = refl
-width-is S2 w a b = refl
+width-is Signed1 w a b = refl
+width-is Signed2 w a b = refl
 width-is Pool1 w a b = refl
 width-is Pool2 w a b = refl
 width-is Local true a b = refl
@@ -47,8 +47,8 @@ size-is i = size_by-is (shape_of i.op) i.wide i refl
 
 width≤4 : (s : Shape) (w : Bool) → width s w ≤ 4
 width≤4 Plain w = omega arith
-width≤4 S1 w = omega arith
-width≤4 S2 w = omega arith
+width≤4 Signed1 w = omega arith
+width≤4 Signed2 w = omega arith
 width≤4 Pool1 w = omega arith
 width≤4 Pool2 w = omega arith
 width≤4 Local true = omega arith

@@ -1,7 +1,7 @@
 -- Operands as they stand in bytes.
 use Rattle.std.specs.Prelude.{◌≡◌, ◌≢◌, ℕ, ℤ, ◌<◌, List, ◌∷◌, ◌++◌, length, Bool, true, false}
 use Rattle.cf_form.specs.declared.shape.Shape.{Shape}
-use Rattle.cf_form.specs.declared.shape.Shape.TheVariants.{Plain, S1, S2, Pool1, Pool2, Local, Step, Jump2, Jump4, Face, Wide}
+use Rattle.cf_form.specs.declared.shape.Shape.TheVariants.{Plain, Signed1, Signed2, Pool1, Pool2, Local, Step, Jump2, Jump4, Face, Wide}
 use Rattle.cf_form.specs.Instructions.{operands, OperandsFit}
 use Rattle.cf_instr.specs.declared.code_fault.CodeKind.{CodeKind}
 use Rattle.cf_instr.specs.declared.code_fault.CodeKind.TheVariants as kinds
@@ -9,8 +9,8 @@ use Rattle.cf_instr.specs.declared.code_fault.CodeKind.TheVariants as kinds
 -- how many bytes the operands of a shape take, plain and after `wide`
 abbrev pub width : Shape → Bool → ℕ
 width Plain wide = 0
-width S1 wide = 1
-width S2 wide = 2
+width Signed1 wide = 1
+width Signed2 wide = 2
 width Pool1 wide = 1
 width Pool2 wide = 2
 width Local false = 1

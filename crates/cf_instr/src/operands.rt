@@ -16,8 +16,8 @@ pub fn plain(shape: Shape, bytes: &[u8]) -> Result<(i32, i32, &[u8]), CodeKind>
 {
     match shape {
         Shape::Plain | Shape::Wide => Ok((0, 0, bytes)),
-        Shape::S1 => alone(signed_byte(bytes)),
-        Shape::S2 | Shape::Jump2 => alone(signed_short(bytes)),
+        Shape::Signed1 => alone(signed_byte(bytes)),
+        Shape::Signed2 | Shape::Jump2 => alone(signed_short(bytes)),
         Shape::Pool1 | Shape::Local => alone(byte(bytes)),
         Shape::Pool2 => alone(short(bytes)),
         Shape::Step => step(bytes),

@@ -60,8 +60,8 @@ fn operand_count(shape: Shape, wide: bool) -> u32
 {
     match shape {
         Shape::Plain | Shape::Wide => 0,
-        Shape::S1 | Shape::Pool1 => 1,
-        Shape::S2 | Shape::Pool2 | Shape::Jump2 => 2,
+        Shape::Signed1 | Shape::Pool1 => 1,
+        Shape::Signed2 | Shape::Pool2 | Shape::Jump2 => 2,
         Shape::Local => if wide { 2 } else { 1 },
         Shape::Step => if wide { 4 } else { 2 },
         Shape::Jump4 | Shape::Face => 4,

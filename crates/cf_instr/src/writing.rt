@@ -37,8 +37,8 @@ fn put_operands(out: &mut Vec<u8>, shape: Shape, wide: bool, a: i32, b: i32) -> 
 {
     match shape {
         Shape::Plain | Shape::Wide => Ok(()),
-        Shape::S1 => put_signed_byte(out, a),
-        Shape::S2 | Shape::Jump2 => put_signed_short(out, a),
+        Shape::Signed1 => put_signed_byte(out, a),
+        Shape::Signed2 | Shape::Jump2 => put_signed_short(out, a),
         Shape::Pool1 => put_byte(out, a),
         Shape::Pool2 => put_short(out, a),
         Shape::Local => if wide {

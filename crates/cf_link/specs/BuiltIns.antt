@@ -19,10 +19,11 @@ pub record BuiltIn : Type 0 where
 abbrev pub below : ℕ → List ℕ → BuiltIn
 below parent name = record { name = name; access = 0x0021; parent = Some parent; fields = []; methods = [] }
 
--- a field of a reference, and one of an `int`
+-- a field of a reference
 abbrev pub reference : List ℕ → List ℕ → LinkedField
 reference name descriptor = record { name = name; descriptor = descriptor; kind = Reference }
 
+-- a field of an `int`
 abbrev pub integer : List ℕ → List ℕ → LinkedField
 integer name descriptor = record { name = name; descriptor = descriptor; kind = Int }
 
@@ -38,10 +39,11 @@ built access name descriptor parameters result row = record {
   native = Some row;
 }
 
--- one on an object, and a static one
+-- one on an object
 abbrev pub instance : List ℕ → List ℕ → List ValueKind → Option ValueKind → Native → LinkedMethod
 instance name descriptor parameters result row = built 0x0101 name descriptor parameters result row
 
+-- a static one
 abbrev pub static : List ℕ → List ℕ → List ValueKind → Option ValueKind → Native → LinkedMethod
 static name descriptor parameters result row = built 0x0109 name descriptor parameters result row
 

@@ -9,7 +9,7 @@ use Rattle.cf_form.specs.declared.code.Code.{Code}
 use Rattle.cf_form.specs.declared.code.Handler.{Handler}
 use Rattle.cf_form.specs.declared.instr.Instr.{Instr}
 use Rattle.cf_form.specs.declared.shape.Shape.{Shape}
-use Rattle.cf_form.specs.declared.shape.Shape.TheVariants.{Plain, S1, S2, Pool1, Pool2, Local, Step, Jump2, Jump4, Face, Wide}
+use Rattle.cf_form.specs.declared.shape.Shape.TheVariants.{Plain, Signed1, Signed2, Pool1, Pool2, Local, Step, Jump2, Jump4, Face, Wide}
 use Rattle.cf_form.specs.Opcodes.{shape_of}
 use Rattle.cf_form.specs.Instructions.{operands, bytes_by, bytes_of, size, offset, jumps, with_offset, with_offsets, code_bytes}
 use Rattle.cf_write.specs.Spelling.{handler_bytes, code_info}
@@ -29,8 +29,8 @@ offset-le code k =
 -- operands take as many bytes, whatever they are
 operands-length : (s : Shape) (w : Bool) (a b x : ℤ) → length (operands s w a b) ≡ length (operands s w x b)
 operands-length Plain w a b x = refl
-operands-length S1 w a b x = refl
-operands-length S2 w a b x = refl
+operands-length Signed1 w a b x = refl
+operands-length Signed2 w a b x = refl
 operands-length Pool1 w a b x = refl
 operands-length Pool2 w a b x = refl
 operands-length Local true a b x = refl

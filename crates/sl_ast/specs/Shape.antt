@@ -11,9 +11,11 @@ abbrev pub in_table : Option Shape → Shape
 in_table (Some found) = found
 in_table None = shapes.Unknown
 
+-- the shape at a place of a table, `Unknown` past its end
 abbrev pub numbered : List Shape → ℕ → Shape
 numbered table number = in_table (slice_get table number)
 
+-- what of a token the grammar looks at
 abbrev pub shape : TokenKind → Shape
 shape (kind.Id name) = shapes.Id
 shape (kind.Op name) = shapes.Op

@@ -18,10 +18,12 @@ plain c =
 abbrev pub single : ℕ → Option ℕ
 single c = position (λ d. d == c) (codes "()[]{},;.")
 
+-- such a mark, or the class of its character
 abbrev pub by_single : ℕ → Option ℕ → Class
 by_single c None = plain c
 by_single c (Some i) = class.Single (10 + i)
 
+-- the class of a character with the one behind it
 abbrev pub class_of : ℕ → Option ℕ → Class
 class_of c next =
     if (c == 47) && is 47 next then class.LineComment else
