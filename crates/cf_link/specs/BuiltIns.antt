@@ -1,5 +1,6 @@
 -- The built-in classes, with which every linked set begins, and their methods. `Native` says what stands for which method.
-use Rattle.std.specs.Prelude.{ℕ, List, [], ◌∷◌, ◌++◌, Option, Some, None, codes}
+use Rattle.std.specs.Prelude.{◌≡◌, ℕ, List, [], ◌∷◌, ◌++◌, Option, Some, None, codes}
+use Rattle.cf_link.specs.declared.linked_class.LinkedClass.{LinkedClass}
 use Rattle.cf_link.specs.declared.member.LinkedField.{LinkedField}
 use Rattle.cf_link.specs.declared.member.LinkedMethod.{LinkedMethod}
 use Rattle.cf_link.specs.declared.native.Native.{Native}
@@ -182,3 +183,13 @@ cells = record {
 -- all of them, by their numbers
 abbrev pub built_ins : List BuiltIn
 built_ins = (object ∷ string ∷ runnable ∷ thread ∷ throwable ∷ []) ++ throwables ++ values ++ cells ∷ []
+
+-- a linked class is this built-in one
+pub record IsBuiltIn (b : BuiltIn) (c : LinkedClass) : Type 0 where
+  pub name : c.name ≡ b.name
+  pub access : c.access ≡ b.access
+  pub parent : c.parent ≡ b.parent
+  pub interfaces : c.interfaces ≡ []
+  pub fields : c.fields ≡ b.fields
+  pub statics : c.statics ≡ []
+  pub methods : c.methods ≡ b.methods

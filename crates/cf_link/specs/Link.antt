@@ -10,8 +10,9 @@ use Rattle.cf_form.specs.declared.class_file.FieldInfo.{FieldInfo}
 use Rattle.cf_form.specs.declared.class_file.MethodInfo.{MethodInfo}
 use Rattle.cf_form.specs.declared.constant.Const.{Const}
 use Rattle.cf_form.specs.declared.constant.Const.TheVariants as constant
-use Rattle.cf_link.specs.BuiltIns.{BuiltIn, built_ins}
+use Rattle.cf_link.specs.BuiltIns.{built_ins, IsBuiltIn}
 use Rattle.cf_link.specs.Classes.{is_static, number_of, methods_of}
+use Rattle.cf_link.specs.Linked.{IsClass}
 use Rattle.cf_link.specs.Resolution.{is_method, resolved_field, resolved_method}
 use Rattle.cf_link.specs.declared.linked.Linked.{Linked}
 use Rattle.cf_link.specs.declared.linked_class.LinkedClass.{LinkedClass}
@@ -60,16 +61,6 @@ string_text pool _ = []
 -- the texts that String entries name, in the order of the files and of their pools
 abbrev pub texts_of : List ClassFile → List (List ℕ)
 texts_of files = each_once [] (flat_map (λ file. flat_map (string_text file.pool) file.pool) files)
-
--- a linked class is this built-in one
-pub record IsBuiltIn (b : BuiltIn) (c : LinkedClass) : Type 0 where
-  pub name : c.name ≡ b.name
-  pub access : c.access ≡ b.access
-  pub parent : c.parent ≡ b.parent
-  pub interfaces : c.interfaces ≡ []
-  pub fields : c.fields ≡ b.fields
-  pub statics : c.statics ≡ []
-  pub methods : c.methods ≡ b.methods
 
 -- a linked field is this one of a file
 abbrev pub IsFieldOf : List Const → FieldInfo → LinkedField → Type 0
@@ -121,14 +112,23 @@ Resolves names texts classes pool _ r = r ≡ ref.Other
 abbrev pub is_main : LinkedMethod → Bool
 is_main m = is_method (codes "main") (codes "([Ljava/lang/String;)V") m && is_static m.access && is_some m.code
 
--- the files make this set: of what `IsLinked` leaves open, it has these classes, references, texts and main method
-pub record Link (files : List ClassFile) (k : Linked) : Type 0 where
+-- these are the classes of the files: the built-in ones, then those of the files in their order
+pub record AreClasses (files : List ClassFile) (classes : List LinkedClass) : Type 0 where
   pub built_in : List LinkedClass
   pub of_files : List LinkedClass
-  pub classes : k.classes ≡ built_in ++ of_files
+  pub both : classes ≡ built_in ++ of_files
   pub are_built_in : Each IsBuiltIn built_ins built_in
   pub are_of_files : Each (IsOfFile (names_of files)) files of_files
+  pub each : (class : ℕ) (c : LinkedClass) → slice_get classes class ≡ Some c → IsClass classes class c
+
+-- the method at which a program starts, by its class and number
+pub record IsMain (files : List ClassFile) (classes : List LinkedClass) (main : ℕ × ℕ) : Type 0 where
+  pub class : slice_get (names_of files) main.0 ≡ Some (codes "Main")
+  pub method : number_of is_main (methods_of classes main.0) ≡ Some main.1
+
+-- the files make this set: it has these classes, references, texts and main method, and tables by `IsLinked`
+pub record Link (files : List ClassFile) (k : Linked) : Type 0 where
+  pub classes : AreClasses files k.classes
   pub texts : k.texts ≡ texts_of files
   pub refs : Each (λ pool refs. Each (Resolves (names_of files) k.texts k.classes pool) pool refs) (map (λ _. []) built_ins ++ map (λ f. f.pool) files) k.refs
-  pub main_class : slice_get (names_of files) k.main.0 ≡ Some (codes "Main")
-  pub main : number_of is_main (methods_of k.classes k.main.0) ≡ Some k.main.1
+  pub main : IsMain files k.classes k.main

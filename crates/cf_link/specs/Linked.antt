@@ -1,7 +1,9 @@
 -- What every linked set keeps.
-use Rattle.std.specs.Prelude.{◌≡◌, ◌≤◌, ℕ, List, [], ◌∷◌, ◌++◌, Option, Some, None, ⊤, codes, ◌<◌, length, map, slice_get, option_map, option_to_list, encode_utf8_all, IsTrue, IsSome}
+use Rattle.std.specs.Prelude.{◌≡◌, ◌≢◌, ◌≤◌, ℕ, List, [], ◌∷◌, ◌++◌, Option, Some, None, ⊤, codes, ◌<◌, take, length, map, slice_get, option_map, option_to_list, encode_utf8_all, IsTrue, IsSome}
 use Rattle.std.specs.List.{All}
 use Rattle.ty_linear.specs.Linear.{IsLinearisation}
+use Rattle.cf_form.specs.ClassFiles.{Each}
+use Rattle.cf_link.specs.BuiltIns.{built_ins, IsBuiltIn}
 use Rattle.cf_link.specs.Descriptors.{IsType, IsMethodType}
 use Rattle.cf_link.specs.Classes.{number_of, is_static, chain_of, method_at, statics_of, slots_of}
 use Rattle.cf_link.specs.Resolution.{is_method}
@@ -12,7 +14,7 @@ use Rattle.cf_link.specs.declared.member.LinkedMethod.{LinkedMethod}
 use Rattle.cf_link.specs.declared.reference.LinkedRef.{LinkedRef}
 use Rattle.cf_link.specs.declared.reference.LinkedRef.TheVariants.{Text, Class, Field, Static, Method}
 use Rattle.cf_link.specs.declared.table.Table.{Table}
-use Rattle.cf_link.specs.declared.built_in.TheConstants.{BUILT_INS}
+use Rattle.cf_link.specs.declared.built_in.TheConstants.{BUILT_INS, OBJECT}
 
 -- the direct supertypes of a class or interface (JLS 4.10.2), by their numbers
 abbrev pub supertypes : LinkedClass → List ℕ
@@ -59,6 +61,10 @@ IsEntry m = IsTrue (is_static m.access) × IsSome m.code
 -- a linked set
 pub record IsLinked (classes : List LinkedClass) (tables : List Table) (refs : List (List LinkedRef)) (texts : List (List ℕ)) (main : ℕ × ℕ) : Type 0 where
   pub built_in : BUILT_INS ≤ length classes
+  -- the built-in classes come first, as they are
+  pub are_built_in : Each IsBuiltIn built_ins (take BUILT_INS classes)
+  -- each class but Object has a superclass
+  pub parents : (class : ℕ) (c : LinkedClass) → slice_get classes class ≡ Some c → class ≢ OBJECT → IsSome c.parent
   pub each : (class : ℕ) (c : LinkedClass) → slice_get classes class ≡ Some c → IsClass classes class c
   pub tables_count : length tables ≡ length classes
   pub each_table : (class : ℕ) (t : Table) → slice_get tables class ≡ Some t → t ≡ table classes class

@@ -1,9 +1,10 @@
 -- What references to fields and methods resolve to (JVMS 5.4.3.2 to 5.4.3.4): the walk goes along the class and its
--- superclasses, then the interfaces in the order of the linearisation.
+-- superclasses, then along the interfaces above them.
 use Rattle.std.specs.Prelude.{ℕ, ◌+◌, ◌-◌, Bool, ◌&&◌, nat_lt, List, [], ◌∷◌, Option, None, codes, encode_utf8_all, length, option_map, option_and_then, if◌then◌else◌}
 use Rattle.std.specs.Option.{option_or}
 use Rattle.std.specs.Str.{bytes_eq}
 use Rattle.cf_link.specs.Classes.{number, number_of, is_interface, chain_of, line_of, methods_of, fields_of, statics_of, slots_of}
+use Rattle.cf_link.specs.Selection.{only, declared_in, defaults}
 use Rattle.cf_link.specs.declared.linked_class.LinkedClass.{LinkedClass}
 use Rattle.cf_link.specs.declared.member.LinkedField.{LinkedField}
 use Rattle.cf_link.specs.declared.member.LinkedMethod.{LinkedMethod}
@@ -50,20 +51,35 @@ abbrev pub first_found : (ℕ → Option LinkedRef) → List ℕ → Option Link
 first_found search [] = None
 first_found search (class ∷ classes) = option_or (search class) (first_found search classes)
 
--- the walk: the class and its superclasses, then the interfaces above them, in the order of the linearisation
-abbrev pub walked : List LinkedClass → (ℕ → Option LinkedRef) → ℕ → Option LinkedRef
-walked classes search class =
-    option_or (first_found search (chain_of classes class)) (first_found (in_interface classes search) (line_of classes class))
-
--- what a reference to a field of a class resolves to
+-- what a reference to a field of a class resolves to: the first one in the class and its superclasses, then in the
+-- interfaces in the order of the linearisation
 abbrev pub resolved_field : List LinkedClass → ℕ → List ℕ → List ℕ → Option LinkedRef
-resolved_field classes class name descriptor = walked classes (field_in classes name descriptor) class
+resolved_field classes class name descriptor =
+    option_or (first_found (field_in classes name descriptor) (chain_of classes class))
+    (first_found (in_interface classes (field_in classes name descriptor)) (line_of classes class))
+
+-- the method of these numbers
+abbrev pub method_ref : ℕ × ℕ → LinkedRef
+method_ref found = Method found.0 found.1
+
+module _ (classes : List LinkedClass) (name descriptor : List ℕ) where
+  -- the method that an interface declares and that isn't static
+  abbrev pub offered_in : ℕ → Option LinkedRef
+  offered_in class = in_interface classes (λ c. option_map method_ref (declared_in classes name descriptor c)) class
+
+  -- the method of the interfaces of a line: the one that isn't abstract and is declared again by none below it, if it is
+  -- one, else the first that isn't static
+  abbrev pub of_interfaces : List ℕ → Option LinkedRef
+  of_interfaces line = option_or (option_map method_ref (only (defaults classes name descriptor line line))) (first_found offered_in line)
 
 -- the name of what initialises a class (JVMS 2.9)
 abbrev pub initialiser_name : List ℕ
 initialiser_name = codes "<clinit>"
 
--- what a reference to a method of a class resolves to; none to the initialiser of a class (JVMS 4.4.2)
+-- what a reference to a method of a class resolves to: the first one in the class and its superclasses, then that of the
+-- interfaces; none to the initialiser of a class (JVMS 4.4.2)
 abbrev pub resolved_method : List LinkedClass → ℕ → List ℕ → List ℕ → Option LinkedRef
 resolved_method classes class name descriptor =
-    if bytes_eq (encode_utf8_all name) initialiser_name then None else walked classes (method_in classes name descriptor) class
+    if bytes_eq (encode_utf8_all name) initialiser_name then None
+    else option_or (first_found (method_in classes name descriptor) (chain_of classes class))
+    (of_interfaces classes name descriptor (line_of classes class))

@@ -2,7 +2,7 @@
 
 ghost use Rattle.std.specs.Prelude.{◌≡◌, ◌+◌, option_map};
 ghost use Rattle.cf_link.specs.Classes.{number, number_of, statics_of};
-ghost use Rattle.cf_link.specs.Resolution.{is_field, is_method, instance_in, field_in, method_in, in_interface, first_found, resolved_field, resolved_method};
+ghost use Rattle.cf_link.specs.Resolution.{is_field, is_method, instance_in, field_in, method_in, in_interface, offered_in, of_interfaces, first_found, resolved_field, resolved_method};
 ghost use Rattle.cf_link.specs.declared.reference.LinkedRef.TheVariants.{Field, Static};
 
 use crate::built_in::BUILT_INS;
@@ -12,6 +12,7 @@ use crate::classes::{
 use crate::linked_class::LinkedClass;
 use crate::member::{LinkedField, LinkedMethod};
 use crate::reference::LinkedRef;
+use crate::selection::{declared_in, only_default};
 use sl_base::Name;
 
 /// What a reference to a field of a class resolves to (JVMS 5.4.3.2).
@@ -155,7 +156,7 @@ pub fn resolved_method(
     }
     match method_of_chain(classes, chain_of(classes, class), name, descriptor) {
         Some(found) => Some(found),
-        None => method_of_interfaces(classes, line_of(classes, class), name, descriptor),
+        None => of_interfaces(classes, line_of(classes, class), name, descriptor),
     }
 }
 
@@ -175,22 +176,53 @@ fn method_of_chain(
     None
 }
 
-fn method_of_interfaces(
+// The method of the interfaces of a line: the one default, if it is one, else the first that isn't static.
+fn of_interfaces(
     classes: &[LinkedClass],
     line: &[u32],
     name: &Name,
     descriptor: &Name,
 ) -> Option<LinkedRef>
-    ensures { result ≡ first_found (in_interface classes.now (method_in classes.now name.now descriptor.now)) line.now }
+    ensures { result ≡ of_interfaces classes.now name.now descriptor.now line.now }
+{
+    match only_default(classes, name, descriptor, line) {
+        Some((class, number)) => Some(LinkedRef::Method(class, number)),
+        None => first_offered(classes, line, name, descriptor),
+    }
+}
+
+fn first_offered(
+    classes: &[LinkedClass],
+    line: &[u32],
+    name: &Name,
+    descriptor: &Name,
+) -> Option<LinkedRef>
+    ensures { result ≡ first_found (offered_in classes.now name.now descriptor.now) line.now }
 {
     for class in line {
-        if is_interface(classes, *class) {
-            if let Some(found) = method_in(classes, *class, name, descriptor) {
-                return Some(found);
-            }
+        if let Some(found) = offered_in(classes, *class, name, descriptor) {
+            return Some(found);
         }
     }
     None
+}
+
+// The method that an interface declares and that isn't static.
+fn offered_in(
+    classes: &[LinkedClass],
+    class: u32,
+    name: &Name,
+    descriptor: &Name,
+) -> Option<LinkedRef>
+    ensures { result ≡ offered_in classes.now name.now descriptor.now class }
+{
+    if !is_interface(classes, class) {
+        return None;
+    }
+    match declared_in(classes, name, descriptor, class) {
+        Some((of, number)) => Some(LinkedRef::Method(of, number)),
+        None => None,
+    }
 }
 
 // The method that a class declares.

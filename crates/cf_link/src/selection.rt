@@ -58,8 +58,8 @@ fn inherited(
     None
 }
 
-// The method of that name and descriptor that a class declares and that isn't static.
-fn declared_in(
+/// The method of that name and descriptor that a class declares and that isn't static.
+pub(crate) fn declared_in(
     classes: &[LinkedClass],
     name: &Name,
     descriptor: &Name,
@@ -91,8 +91,8 @@ fn is_wanted(name: &Name, descriptor: &Name, m: &LinkedMethod) -> bool
     !is_static(m.access) && *name == m.name && *descriptor == m.descriptor
 }
 
-// The one default method of a line, if it is one.
-fn only_default(
+/// The one default method of a line, if it is one.
+pub(crate) fn only_default(
     classes: &[LinkedClass],
     name: &Name,
     descriptor: &Name,

@@ -1,8 +1,0 @@
-use Rattle.std.proofs.Common.{◌≡◌, drop}
-use Rattle.cf_link.specs.Resolution.{first_found, in_interface, method_in}
-use Rattle.cf_link.proofs.resolution.method_of_interfaces.Given as goal
-
-abbrev pub invariant-loop-class : goal.invariant-loop-class
-invariant-loop-class l =
-    first_found (in_interface l.classes (method_in l.classes l.name l.descriptor)) (drop l.class-index l.line)
-    ≡ first_found (in_interface l.classes (method_in l.classes l.name l.descriptor)) l.line
