@@ -3,3 +3,4 @@ mod Targeting
 mod Numbering
 mod Types
 mod Following
+mod Methods

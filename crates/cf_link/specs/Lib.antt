@@ -7,6 +7,7 @@ pub mod Resolution
 pub mod Linked
 pub mod BuiltIns
 pub mod Link
+pub mod Faults
 -- For proofs only.
 pub mod Places
 pub mod Parsing

@@ -1,5 +1,5 @@
 -- Reading descriptors from front to back.
-use Rattle.std.specs.Prelude.{ℕ, Bool, true, false, ◌==◌, ◌||◌, if◌then◌else◌, List, [], ◌∷◌, Option, None, Some, option_map}
+use Rattle.std.specs.Prelude.{ℕ, Bool, true, false, ◌==◌, ◌&&◌, ◌||◌, slice_index_or, length, if◌then◌else◌, List, [], ◌∷◌, Option, None, Some, option_map}
 use Rattle.cf_link.specs.declared.value_kind.ValueKind.{ValueKind}
 use Rattle.cf_link.specs.declared.value_kind.ValueKind.TheVariants.{Int, Long, Reference}
 
@@ -38,3 +38,7 @@ type_in_front (byte ∷ bytes) = if byte == 91 then option_map array_of (type_in
 abbrev pub behind_arrays : Bool → Option (ValueKind × List ℕ) → Option (ValueKind × List ℕ)
 behind_arrays false found = found
 behind_arrays true found = option_map array_of found
+
+-- whether bytes are `V` alone
+abbrev pub is_void : List ℕ → Bool
+is_void bytes = (length bytes == 1) && (slice_index_or bytes 0 0 == 86)

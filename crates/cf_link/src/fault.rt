@@ -2,14 +2,15 @@
 
 use sl_base::Name;
 
-/// Why class files aren't linked, with the name of the class that is told.
+/// Why class files aren't linked, with the name of the class that is told: the one given twice, missing, first on a cycle
+/// or of wrong shape, or the one in which the missing member was looked for.
 #[derive(Debug, Drop)]
 pub struct LinkFault {
     pub class: Name,
     pub kind: LinkKind,
 }
 
-/// Why class files aren't linked.
+/// Why class files aren't linked, in the order in which the kinds are looked for.
 #[derive(Clone, Copy, Debug, PartialEq, Eq)]
 pub enum LinkKind {
     /// A class has the name of an earlier or built-in one.
