@@ -1,5 +1,5 @@
 -- A text describes at most one method.
-use Rattle.std.proofs.Common.{◌≡◌, ◌≢◌, ◌∙◌, ℕ, Bool, true, false, ◌&&◌, arith, length, drop, take, ◌-◌, ◌≤◌, slice_index_or, List, [], ◌∷◌, ◌++◌, Option, Some, None, refl, sym, ap, subst, append_assoc, append-nil}
+use Rattle.std.proofs.Common.{◌≡◌, ◌≢◌, ◌∙◌, ℕ, true, false, ◌&&◌, arith, length, drop, take, ◌-◌, ◌≤◌, slice_index_or, List, [], ◌∷◌, ◌++◌, Option, Some, None, refl, sym, ap, subst, append_assoc}
 use Rattle.cf_link.specs.declared.value_kind.ValueKind.{ValueKind}
 use Rattle.cf_link.specs.Descriptors.{IsType, AreTypes, none, more, IsResult, void, type, IsMethodType, method}
 use Rattle.std.specs.Prelude.{◌==◌}
@@ -8,7 +8,7 @@ use Rattle.std.proofs.lemmas.Bool.{eqb-true}
 use Rattle.std.proofs.lemmas.Bool.Decides.{nat_tests}
 use Rattle.cf_link.specs.Parsing.{type_in_front, is_void}
 use Rattle.cf_link.specs.Signatures.{AreParameters, NoParameters}
-use Rattle.cf_link.proofs.Types.{type_read, whole_given, whole_read, whole_kind, some_pair}
+use Rattle.cf_link.proofs.Types.{type_read, whole_read, whole_kind, some_pair}
 
 -- a type in front of more types is read
 front_read : (one : List ℕ) (kind : ValueKind) (others end : List ℕ) → IsType one kind → type_in_front ((one ++ others) ++ end) ≡ Some (kind, others ++ end)

@@ -1,5 +1,5 @@
 -- Why class files aren't linked, and which fault is told (JVMS 5.3, 5.4.3).
-use Rattle.std.specs.Prelude.{◌≡◌, ℕ, ◌+◌, ◌<◌, Bool, false, true, List, [], ◌∷◌, ◌++◌, Option, Some, None, codes, map, take, length, slice_get, option_map, option_to_list, encode_utf8_all, IsTrue}
+use Rattle.std.specs.Prelude.{◌≡◌, ℕ, ◌+◌, ◌<◌, Bool, false, true, List, ◌∷◌, ◌++◌, Option, Some, None, codes, map, take, length, slice_get, option_map, option_to_list, encode_utf8_all, IsTrue}
 use Rattle.std.specs.List.{All}
 use Rattle.std.specs.Option.{unwrap_or}
 use Rattle.ty_linear.specs.Linear.{IsAncestor}

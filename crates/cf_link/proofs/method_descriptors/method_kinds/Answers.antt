@@ -1,8 +1,7 @@
-use Rattle.std.proofs.Common.{rules, ◌≡◌, ◌≢◌, ◌∙◌, List, Option, Some, None, ℕ, length, slice_index_or, [], ◌∷◌, refl, sym, ap, subst, arith, encode_utf8_all}
-use Rattle.cf_link.specs.Descriptors.{IsResult, IsMethodType}
+use Rattle.std.proofs.Common.{rules, ◌≡◌, ◌≢◌, ◌∙◌, Some, None, length, slice_index_or, sym, ap, subst, encode_utf8_all}
+use Rattle.cf_link.specs.Descriptors.{IsResult}
 use Rattle.std.specs.Prelude.{MatchOption}
 use Rattle.cf_link.specs.Signatures.{AreParameters, NoParameters}
-use Rattle.cf_link.specs.declared.value_kind.ValueKind.{ValueKind as Kind}
 use Rattle.cf_link.proofs.Methods.{behind, opened, method_given, method_same}
 use Rattle.cf_link.proofs.method_descriptors.method_kinds.Goals as goal
 

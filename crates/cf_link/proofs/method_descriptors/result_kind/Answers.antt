@@ -1,4 +1,4 @@
-use Rattle.std.proofs.Common.{rules, ◌≡◌, ◌≢◌, List, Option, Some, None, ℕ, length, [], ◌∷◌, Bool, true, false, refl, sym, ap, subst, arith}
+use Rattle.std.proofs.Common.{rules, ◌≡◌, ◌≢◌, List, Some, None, ℕ, length, [], ◌∷◌, true, false, refl, sym, ap, subst, arith}
 use Rattle.cf_link.specs.Descriptors.{IsResult, void, type}
 use Rattle.cf_link.specs.Parsing.{is_void}
 use Rattle.cf_link.proofs.Types.{whole_given}
