@@ -6,13 +6,14 @@ use Rattle.ty_conform.specs.Carried.{HasLinearisations}
 use Rattle.ty_flow.specs.SetFirst.{LocalsAreSetFirst}
 use Rattle.ty_typed.specs.declared.class_locals.ClassLocals.{ClassLocals}
 use Rattle.ty_typed.specs.Bodies.{TypedWith}
-use Rattle.ty_complete.specs.Complete.{BeginsWithPrelude, FilesDiffer, NamesFit, TextsFit, ParametersFit, OnlyClassesHaveParameters, TypesAreDeclared, MethodsFitAnyRef, MembersDiffer, ParentsFit, ParentsAreNoObjects, ParentsAreNoThreads, NewIsConcrete, PreludeIsClosed, FindsAll, HasMain}
+use Rattle.ty_complete.specs.Complete.{BeginsWithPrelude, FilesDiffer, NamesFit, WordsFit, TextsFit, ParametersFit, OnlyClassesHaveParameters, TypesAreDeclared, MethodsFitAnyRef, MembersDiffer, ParentsDiffer, ParentsFit, ParentsAreNoObjects, ParentsAreNoThreads, NewIsConcrete, PreludeIsClosed, MembersAgree, FindsAll, HasMain}
 use Rattle.ty_good.specs.Numbers.{NumbersInRange}
 use Rattle.ty_good.specs.Forms.{HasForms}
 use Rattle.ty_good.specs.Names.{NamesMade}
 use Rattle.ty_good.specs.Traits.{MixinsFit, SupersStand, TraitsHaveRoom, TraitsLowered}
 use Rattle.ty_good.specs.Modules.{ModulesSet}
 use Rattle.ty_good.specs.LazyGets.{LazyGetsStand}
+use Rattle.ty_good.specs.LazyMembers.{CellsRead, LazyMembersFound}
 use Rattle.ty_good.specs.TraitFields.{TraitFieldsStand}
 use Rattle.ty_good.specs.Accessors.{AccessorsFound}
 use Rattle.ty_good.specs.Selection.{SelectsFound}
@@ -24,6 +25,7 @@ abbrev pub Holds : Part → ℕ → Program → List ClassLocals → Type 0
 Holds part.BeginsWithPrelude k p locals = BeginsWithPrelude p
 Holds part.FilesDiffer k p locals = FilesDiffer p
 Holds part.NamesFit k p locals = NamesFit p
+Holds part.WordsFit k p locals = WordsFit p
 Holds part.TextsFit k p locals = TextsFit p
 Holds part.ParametersFit k p locals = ParametersFit p
 Holds part.OnlyClassesHaveParameters k p locals = OnlyClassesHaveParameters p
@@ -31,11 +33,13 @@ Holds part.TypesAreDeclared k p locals = TypesAreDeclared p
 Holds part.MethodsFitAnyRef k p locals = MethodsFitAnyRef p
 Holds part.MembersDiffer k p locals = MembersDiffer p
 Holds part.HasLinearisations k p locals = HasLinearisations p
+Holds part.ParentsDiffer k p locals = ParentsDiffer p
 Holds part.ParentsFit k p locals = ParentsFit p
 Holds part.ParentsAreNoObjects k p locals = ParentsAreNoObjects p
 Holds part.ParentsAreNoThreads k p locals = ParentsAreNoThreads p
 Holds part.NewIsConcrete k p locals = NewIsConcrete p
 Holds part.PreludeIsClosed k p locals = PreludeIsClosed p
+Holds part.MembersAgree k p locals = MembersAgree p
 Holds part.FindsAll k p locals = FindsAll p
 Holds part.LocalsAreSetFirst k p locals = LocalsAreSetFirst p
 Holds part.HasMain k p locals = HasMain p
@@ -49,6 +53,8 @@ Holds part.TraitsHaveRoom k p locals = TraitsHaveRoom k p
 Holds part.TraitsLowered k p locals = TraitsLowered k p
 Holds part.ModulesSet k p locals = ModulesSet k p
 Holds part.LazyGetsStand k p locals = LazyGetsStand k p
+Holds part.CellsRead k p locals = CellsRead k p
+Holds part.LazyMembersFound k p locals = LazyMembersFound k p
 Holds part.TraitFieldsStand k p locals = TraitFieldsStand k p
 Holds part.AccessorsFound k p locals = AccessorsFound k p
 Holds part.SelectsFound k p locals = SelectsFound k p

@@ -3,6 +3,7 @@
 ghost use Rattle.std.specs.Prelude.{◌≡◌, IfOk, string_bytes};
 ghost use Rattle.ty_cases.specs.Tells.{told};
 
+use crate::copies::{copied, rebuilt};
 use crate::goodness::{good, room};
 use crate::members::{found, found_behind, linear};
 use crate::question::{Question, question_of};
@@ -57,6 +58,8 @@ fn answer_to(
         Question::Fits => fitting(alloc, source, parts),
         Question::Kind => kind(alloc, source, parts),
         Question::Same => are_same(alloc, parts),
+        Question::Copy => copied(alloc, source),
+        Question::Rebuild => rebuilt(alloc, parts),
     }
 }
 

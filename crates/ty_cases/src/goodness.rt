@@ -1,6 +1,7 @@
 //! Questions on goodness and room.
 
-ghost use Rattle.std.specs.Prelude.{IfOk, string_bytes};
+ghost use Rattle.std.specs.Prelude.{◌≡◌, ◌++◌, IfOk, codes, string_bytes};
+ghost use Rattle.ty_good.specs.Good.{GoodWith};
 ghost use Rattle.ty_room.specs.Room.{Room};
 ghost use Rattle.ty_cases.specs.Tells.{Tells};
 
@@ -23,12 +24,32 @@ pub(crate) fn good(
 ) -> Result<String, ProgramFault> {
     let k = parts.number();
     let locals = class_locals(alloc, source.locals.as_slice())?;
-    let is_good = is_good_with(alloc, k, &source.program, locals.as_slice())?;
-    let mut told = yes_or_no(alloc, is_good)?;
-    if !is_good {
-        let names = broken(alloc, k, &source.program, locals.as_slice())?;
-        told.push_str(names.as_str())?;
+    good_told(alloc, k, &source.program, locals.as_slice())
+}
+
+// Whether the program is good.
+#[tactic(auto, using(crate::proofs::Tells::tells_yes, crate::proofs::Tells::tells_no))]
+fn good_told(
+    alloc: Global,
+    k: u32,
+    p: &Program,
+    locals: &[ClassLocals],
+) -> Result<String, ProgramFault>
+    ensures { IfOk result (λ text. Tells (GoodWith k p.now locals.now) (string_bytes text)) }
+{
+    if is_good_with(alloc, k, p, locals)? {
+        return yes_or_no(alloc, true);
     }
+    let names = broken(alloc, k, p, locals)?;
+    no_and(alloc, names.as_str())
+}
+
+// `no` with a text behind it.
+fn no_and(alloc: Global, more: &str) -> Result<String, ProgramFault>
+    ensures { IfOk result (λ text. string_bytes text ≡ codes "no" ++ more.now) }
+{
+    let mut told = String::from_str(alloc, "no")?;
+    told.push_str(more)?;
     Ok(told)
 }
 

@@ -2,6 +2,7 @@
 #![tactic(auto)]
 
 mod answers;
+mod copies;
 mod goodness;
 mod holding;
 mod locals;

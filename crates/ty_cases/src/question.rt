@@ -17,9 +17,11 @@ pub(crate) enum Question {
     Fits,
     Kind,
     Same,
+    Copy,
+    Rebuild,
 }
 
-static QUESTIONS: [(&str, Question); 14] = [
+static QUESTIONS: [(&str, Question); 16] = [
     ("conforms", Question::Conforms),
     ("inherits", Question::Inherits),
     ("join", Question::Join),
@@ -34,6 +36,8 @@ static QUESTIONS: [(&str, Question); 14] = [
     ("fits", Question::Fits),
     ("kind", Question::Kind),
     ("same", Question::Same),
+    ("copy", Question::Copy),
+    ("rebuild", Question::Rebuild),
 ];
 
 /// The question with this name.

@@ -16,7 +16,7 @@ use Rattle.ty_prog.specs.Find.{find, super_find}
 use Rattle.ty_linear.specs.Linear.{is_in}
 use Rattle.ty_conform.specs.Conforms.{linear_of}
 use Rattle.ty_walk.specs.Everywhere.{AllNodesOf, AllNodes}
-use Rattle.ty_complete.specs.Complete.{made, super_of, HasObjects, object, created, HasAbove, FindsIts, FindsAll}
+use Rattle.ty_complete.specs.Complete.{made, super_of, HasObjects, object, created, IsAbove, HasAbove, Agrees, FindsIts, FindsAll}
 use Rattle.ty_conform.specs.Kinds.{is_object}
 use Rattle.ty_complete.specs.Finding.{makes_other, method_found, methods_found, super_found, HoldsOf, MethodsAgree, ListsAgree, AgreesWith, FindsIn}
 
@@ -105,6 +105,43 @@ super_kept : (p : Program) (class : ℕ) (called : Option (ℕ × List ℕ))
 super_kept p class None found = refl
 super_kept p class (Some s) found = is_found (super_find p class s.0 s.1) (found s.0 s.1 refl)
 
+-- methods of one name in a linearisation
+module _ (p : Program) (linear : List ℕ) where
+  agree_part : All (HoldsOf p.classes (AgreesWith p.classes linear)) linear → (one two : Class) (first second : Method)
+      → IsAbove p linear one → IsAbove p linear two → Contains one.methods first → Contains two.methods second → MethodsAgree first second
+  agree_part all one two first second has other in_one in_two =
+      let with_one : AgreesWith p.classes linear one =
+      (All-contains (HoldsOf p.classes (AgreesWith p.classes linear)) linear has.number all (has_number linear has.number has.has)).each one has.is in
+      let with_two : ListsAgree one.methods two.methods =
+      (All-contains (HoldsOf p.classes (λ c. ListsAgree one.methods c.methods)) linear other.number with_one (has_number linear other.number other.has)).each two other.is in
+      let with_first : All (MethodsAgree first) two.methods =
+      All-contains (λ m. All (MethodsAgree m) two.methods) one.methods first with_two in_one in
+      All-contains (MethodsAgree first) two.methods second with_first in_two
+
+  part_agree : ((one two : Class) (first second : Method) → IsAbove p linear one → IsAbove p linear two
+      → Contains one.methods first → Contains two.methods second → MethodsAgree first second)
+      → All (HoldsOf p.classes (AgreesWith p.classes linear)) linear
+  part_agree agree =
+      All-weaker (Contains linear) (HoldsOf p.classes (AgreesWith p.classes linear)) (λ number at. record {
+        each = λ one is.
+            All-weaker (Contains linear) (HoldsOf p.classes (λ c. ListsAgree one.methods c.methods)) (λ other at_other. record {
+              each = λ two is_two.
+                  All-weaker (Contains one.methods) (λ m. All (MethodsAgree m) two.methods) (λ first in_one.
+                  All-weaker (Contains two.methods) (MethodsAgree first) (λ second in_two.
+                  agree one two first second (record { number = number; has = is_number linear number at; is = is }) (record { number = other; has = is_number linear other at_other; is = is_two }) in_one in_two)
+                  two.methods (All-contains_itself two.methods))
+                  one.methods (All-contains_itself one.methods);
+            })
+            linear (All-contains_itself linear);
+      })
+      linear (All-contains_itself linear)
+
+  pub agrees_told : (answer : Bool) → (IsTrue answer ↔ All (HoldsOf p.classes (AgreesWith p.classes linear)) linear) → IsTrue answer ↔ Agrees p linear
+  agrees_told answer told = (
+    λ h. record { each = λ one two first second has other in_one in_two. (agree_part (told.0 h) one two first second has other in_one in_two).each },
+    λ all. told.1 (part_agree (λ one two first second has other in_one in_two. record { each = all.each one two first second has other in_one in_two })),
+  )
+
 module _ (p : Program) (class : ℕ) where
   -- the methods of a class with a number
   number_told : (number : ℕ) (above : Class) → slice_get p.classes number ≡ Some above → IsTrue (methods_found p class number)
@@ -149,39 +186,9 @@ module _ (p : Program) (class : ℕ) where
         above.methods (All-contains_itself above.methods))))
         linear (All-contains_itself linear))
 
-    agree_part : All (HoldsOf p.classes (AgreesWith p.classes linear)) linear → (one two : Class) (first second : Method)
-        → HasAbove p class one → HasAbove p class two → Contains one.methods first → Contains two.methods second → MethodsAgree first second
-    agree_part all one two first second has other in_one in_two =
-        let with_one : AgreesWith p.classes linear one =
-        (All-contains (HoldsOf p.classes (AgreesWith p.classes linear)) linear has.number all (in_list has.number has.has)).each one has.is in
-        let with_two : ListsAgree one.methods two.methods =
-        (All-contains (HoldsOf p.classes (λ c. ListsAgree one.methods c.methods)) linear other.number with_one (in_list other.number other.has)).each two other.is in
-        let with_first : All (MethodsAgree first) two.methods =
-        All-contains (λ m. All (MethodsAgree m) two.methods) one.methods first with_two in_one in
-        All-contains (MethodsAgree first) two.methods second with_first in_two
-
-    part_agree : ((one two : Class) (first second : Method) → HasAbove p class one → HasAbove p class two
-        → Contains one.methods first → Contains two.methods second → MethodsAgree first second)
-        → All (HoldsOf p.classes (AgreesWith p.classes linear)) linear
-    part_agree agree =
-        All-weaker (Contains linear) (HoldsOf p.classes (AgreesWith p.classes linear)) (λ number at. record {
-          each = λ one is.
-              All-weaker (Contains linear) (HoldsOf p.classes (λ c. ListsAgree one.methods c.methods)) (λ other at_other. record {
-                each = λ two is_two.
-                    All-weaker (Contains one.methods) (λ m. All (MethodsAgree m) two.methods) (λ first in_one.
-                    All-weaker (Contains two.methods) (MethodsAgree first) (λ second in_two.
-                    agree one two first second (above_at number one at is) (above_at other two at_other is_two) in_one in_two)
-                    two.methods (All-contains_itself two.methods))
-                    one.methods (All-contains_itself one.methods);
-              })
-              linear (All-contains_itself linear);
-        })
-        linear (All-contains_itself linear)
-
     finds_its : FindsIn p class linear → FindsIts p class
     finds_its parts = record {
       found = found_part parts.found;
-      agree = λ one two first second has other in_one in_two. (agree_part parts.agree one two first second has other in_one in_two).each;
       super = λ above node after name has stands is.
           super_told p class (super_of node) after name is
           (((All-contains (HoldsOf p.classes (AllNodesOf (λ n. IsTrue (super_found p class n)))) linear has.number parts.super (in_list has.number has.has)).each above has.is).each node stands);
@@ -190,7 +197,6 @@ module _ (p : Program) (class : ℕ) where
     finds_in : FindsIts p class → FindsIn p class linear
     finds_in finds = record {
       found = part_found finds.found;
-      agree = part_agree (λ one two first second has other in_one in_two. record { each = finds.agree one two first second has other in_one in_two });
       super = All-weaker (Contains linear) (HoldsOf p.classes (AllNodesOf (λ n. IsTrue (super_found p class n))))
           (λ number at. record {
             each = λ above is. record {
@@ -205,7 +211,6 @@ module _ (p : Program) (class : ℕ) where
   pub finds_nothing : slice_get p.classes class ≡ None → FindsIts p class
   finds_nothing none = record {
     found = λ above method has. absurd (nothing has.number has.has);
-    agree = λ one two first second has. absurd (nothing has.number has.has);
     super = λ above node after name has. absurd (nothing has.number has.has);
   } where
     nothing : (number : ℕ) → IsTrue (is_in (linear_of p.classes class) number) → ⊥

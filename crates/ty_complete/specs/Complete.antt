@@ -1,6 +1,6 @@
 -- What makes a program complete, part by part, on what SLS 4, 5 and 6.10 ask and what class files can hold (JVMS 4).
-use Rattle.std.specs.Prelude.{◌≡◌, ◌≢◌, ℕ, ◌≤◌, Bool, true, false, IsTrue, IsSome, not, ◌&&◌, ◌||◌, List, [], ◌∷◌, ◌++◌, Option, Some, None, length, take, drop, map, codes, nat_eq, nat_le, slice_get, option_map, option_and_then, if◌then◌else◌}
-use Rattle.std.specs.List.{All, AllPairs, list_any, list_all, Contains}
+use Rattle.std.specs.Prelude.{◌≡◌, ◌≢◌, ℕ, ◌≤◌, Bool, true, false, IsTrue, IsSome, not, ◌&&◌, ◌||◌, List, [], ◌∷◌, ◌++◌, Option, Some, None, length, take, drop, map, codes, nat_eq, nat_le, slice_get, option_map, option_and_then}
+use Rattle.std.specs.List.{All, AllPairs, list_any, list_all, Contains, slice_split}
 use Rattle.std.specs.Option.{unwrap_or}
 use Rattle.std.specs.Str.{bytes_eq}
 use Rattle.ty_prog.specs.declared.class.Class.{Class}
@@ -69,6 +69,21 @@ pub record HasNames (class : Class) : Type 0 where
 -- the names outside the prelude fit
 abbrev pub NamesFit : Program → Type 0
 NamesFit p = All HasNames (own_classes p)
+
+-- a name whose words, the texts between `$`, have at most 81 characters: a name of the source has 80, that of a setter one
+-- more
+abbrev pub has_short_words : List ℕ → Bool
+has_short_words name = list_all (λ word. nat_le (length word) 81) (slice_split (nat_eq 36) name)
+
+-- so have the names of a class and of its members
+abbrev pub words_fit : Class → Bool
+words_fit class =
+    has_short_words class.name && list_all (λ f. has_short_words f.name) class.fields
+    && list_all (λ c. has_short_words c.name) class.cells && list_all (λ m. has_short_words m.name) class.methods
+
+-- the words of the names outside the prelude fit, so that the names that lowerings put together of them fit a class file
+abbrev pub WordsFit : Program → Type 0
+WordsFit p = IsTrue (list_all words_fit (own_classes p))
 
 -- a text of at most 10,000 characters
 abbrev pub level_text_fits : ExprLevel → Bool
@@ -177,6 +192,10 @@ superclass_fits classes super (Some wanted) = reaches classes super wanted
 abbrev pub fits_below : List Class → Option ℕ → ℕ → Bool
 fits_below classes super class = not (is_trait classes class) || superclass_fits classes super (superclass_of classes class)
 
+-- no class has one parent twice (SLS 5.1)
+abbrev pub ParentsDiffer : Program → Type 0
+ParentsDiffer p = All (λ class. AllPairs (λ one other. one ≢ other) class.parents) p.classes
+
 -- a parent after the first is a trait; each trait of the linearisation fits the superclass
 abbrev pub parents_fit : List Class → Class → Bool
 parents_fit classes class =
@@ -272,11 +291,26 @@ pub data HasObjects (p : Program) (class : ℕ) : Type 0 where
   object : IsTrue (is_object p.classes class) → HasObjects p class
   created : (maker : Class) (node : Tree) → Contains p.classes maker → StandsIn maker node → made node ≡ Some class → HasObjects p class
 
--- a class of the linearisation of another
-pub record HasAbove (p : Program) (class : ℕ) (above : Class) : Type 0 where
+-- a class of a linearisation
+pub record IsAbove (p : Program) (linear : List ℕ) (above : Class) : Type 0 where
   pub number : ℕ
-  pub has : IsTrue (is_in (linear_of p.classes class) number)
+  pub has : IsTrue (is_in linear number)
   pub is : slice_get p.classes number ≡ Some above
+
+-- a class of the linearisation of another
+abbrev pub HasAbove : Program → ℕ → Class → Type 0
+HasAbove p class above = IsAbove p (linear_of p.classes class) above
+
+-- methods of one name that aren't static, of classes of one linearisation, have the same parameters and result (SLS 5.1.3,
+-- 5.1.4)
+pub record Agrees (p : Program) (linear : List ℕ) : Type 0 where
+  pub each : (one two : Class) (first second : Method) → IsAbove p linear one → IsAbove p linear two
+      → Contains one.methods first → Contains two.methods second → first.is_static ≡ false → second.is_static ≡ false
+      → first.name ≡ second.name → (first.params ≡ second.params) × (first.result ≡ second.result)
+
+-- so in each class and each trait, also one of which there are no objects
+abbrev pub MembersAgree : Program → Type 0
+MembersAgree p = All (λ class. Agrees p class.linear) p.classes
 
 -- the template and the name of an expression that calls by `super`
 abbrev pub level_super : ExprLevel → Option (ℕ × List ℕ)
@@ -288,14 +322,11 @@ abbrev pub super_of : Tree → Option (ℕ × List ℕ)
 super_of (ExprTree e) = level_super (out-Expr e)
 super_of other = None
 
--- in a class of which there are objects, each name of a method that isn't static is found, methods of one name agree in
--- parameters and result, and what `super` calls is found (SLS 5.1.3, 5.1.4, 6.5)
+-- in a class of which there are objects, each name of a method that isn't static is found, and what `super` calls is found
+-- (SLS 5.1.3, 6.5)
 pub record FindsIts (p : Program) (class : ℕ) : Type 0 where
   pub found : (above : Class) (method : Method) → HasAbove p class above → Contains above.methods method
       → method.is_static ≡ false → IsSome (find p class method.name)
-  pub agree : (one two : Class) (first second : Method) → HasAbove p class one → HasAbove p class two
-      → Contains one.methods first → Contains two.methods second → first.is_static ≡ false → second.is_static ≡ false
-      → first.name ≡ second.name → (first.params ≡ second.params) × (first.result ≡ second.result)
   pub super : (above : Class) (node : Tree) (after : ℕ) (name : List ℕ) → HasAbove p class above → StandsIn above node
       → super_of node ≡ Some (after, name) → IsSome (super_find p class after name)
 
@@ -308,6 +339,7 @@ pub record Complete (p : Program) : Type 0 where
   pub begins : BeginsWithPrelude p
   pub files : FilesDiffer p
   pub names : NamesFit p
+  pub words : WordsFit p
   pub texts : TextsFit p
   pub parameters : ParametersFit p
   pub only_classes : OnlyClassesHaveParameters p
@@ -315,11 +347,13 @@ pub record Complete (p : Program) : Type 0 where
   pub any_ref : MethodsFitAnyRef p
   pub members : MembersDiffer p
   pub linearisations : HasLinearisations p
+  pub parents_differ : ParentsDiffer p
   pub parents : ParentsFit p
   pub no_objects : ParentsAreNoObjects p
   pub no_threads : ParentsAreNoThreads p
   pub concrete : NewIsConcrete p
   pub closed : PreludeIsClosed p
+  pub agree : MembersAgree p
   pub found : FindsAll p
   pub set : LocalsAreSetFirst p
   pub main : HasMain p

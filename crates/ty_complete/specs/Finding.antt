@@ -46,8 +46,7 @@ AgreesWith classes linear class = All (HoldsOf classes (λ other. ListsAgree cla
 abbrev pub SupersFound : Program → ℕ → List ℕ → Type 0
 SupersFound p class linear = All (HoldsOf p.classes (AllNodesOf (λ node. IsTrue (super_found p class node)))) linear
 
--- the three parts, over a linearisation
+-- the two parts, over a linearisation
 pub record FindsIn (p : Program) (class : ℕ) (linear : List ℕ) : Type 0 where
   pub found : IsTrue (list_all (methods_found p class) linear)
-  pub agree : All (HoldsOf p.classes (AgreesWith p.classes linear)) linear
   pub super : SupersFound p class linear

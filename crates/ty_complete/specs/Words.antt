@@ -1,5 +1,5 @@
 -- The words of a name, which `$` separates; what the passes of the compiler make of names is told by them.
-use Rattle.std.specs.Prelude.{ℕ, ◌-◌, Bool, true, false, ◌&&◌, List, [], ◌∷◌, ◌++◌, codes, map, nat_eq, length, slice_get, option_map, if◌then◌else◌}
+use Rattle.std.specs.Prelude.{ℕ, ◌-◌, Bool, true, false, List, [], ◌∷◌, ◌++◌, codes, nat_eq, length, slice_get, option_map, if◌then◌else◌}
 use Rattle.std.specs.Option.{unwrap_or}
 use Rattle.std.specs.Str.{bytes_eq}
 use Rattle.ty_complete.specs.declared.word.Word.{Word}

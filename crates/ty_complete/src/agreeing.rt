@@ -2,14 +2,31 @@
 
 ghost use Rattle.std.specs.Prelude.{◌≡◌, ◌↔◌, IsTrue};
 ghost use Rattle.std.specs.List.{All};
+ghost use Rattle.ty_complete.specs.Complete.{Agrees, MembersAgree};
 ghost use Rattle.ty_complete.specs.Finding.{HoldsOf, MethodsAgree, ListsAgree, AgreesWith};
 
 use sqlite_items::at;
-use ty_prog::{Class, Method, Ty};
+use ty_prog::{Class, Method, Program, Ty};
 
-/// Whether any two methods of one name that aren't static, of any two classes of a list, agree in parameters and
-/// result.
-pub(crate) fn all_agree(classes: &[Class], linear: &[u32]) -> bool
+/// Whether methods of one name that aren't static have the same parameters and result, in the linearisation of each
+/// class and trait (SLS 5.1.3, 5.1.4).
+pub fn members_agree(p: &Program) -> bool
+    ensures { IsTrue result ↔ MembersAgree p.now }
+{
+    p.classes
+        .as_slice()
+        .iter()
+        .all(|class| agrees(p, class.linear.as_slice()))
+}
+
+fn agrees(p: &Program, linear: &[u32]) -> bool
+    ensures { IsTrue result ↔ Agrees p.now linear.now }
+{
+    all_agree(p.classes.as_slice(), linear)
+}
+
+// Whether any two methods of one name that aren't static, of any two classes of a list, agree.
+fn all_agree(classes: &[Class], linear: &[u32]) -> bool
     ensures { IsTrue result ↔ All (HoldsOf classes.now (AgreesWith classes.now linear.now)) linear.now }
 {
     linear

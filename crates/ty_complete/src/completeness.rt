@@ -3,9 +3,10 @@
 ghost use Rattle.std.specs.Prelude.{◌↔◌, IfOk, IsTrue};
 ghost use Rattle.ty_conform.specs.Carried.{HasLinearisations};
 ghost use Rattle.ty_flow.specs.SetFirst.{LocalsAreSetFirst};
-ghost use Rattle.ty_complete.specs.Complete.{BeginsWithPrelude, FilesDiffer, NamesFit, TextsFit, ParametersFit, OnlyClassesHaveParameters, TypesAreDeclared, MethodsFitAnyRef, MembersDiffer, ParentsFit, ParentsAreNoObjects, ParentsAreNoThreads, NewIsConcrete, PreludeIsClosed, FindsAll, HasMain, Complete};
+ghost use Rattle.ty_complete.specs.Complete.{BeginsWithPrelude, FilesDiffer, NamesFit, WordsFit, TextsFit, ParametersFit, OnlyClassesHaveParameters, TypesAreDeclared, MethodsFitAnyRef, MembersDiffer, ParentsDiffer, ParentsFit, ParentsAreNoObjects, ParentsAreNoThreads, NewIsConcrete, PreludeIsClosed, MembersAgree, FindsAll, HasMain, Complete};
 
 use crate::NoMemory;
+use crate::agreeing::members_agree;
 use crate::any_ref::methods_fit_any_ref;
 use crate::beginning::begins_with_prelude;
 use crate::creation::new_is_concrete;
@@ -17,8 +18,9 @@ use crate::linearised::has_linearisations;
 use crate::members::members_differ;
 use crate::names::names_fit;
 use crate::parameters::{only_classes_have_parameters, parameters_fit};
-use crate::parents::{parents_are_no_objects, parents_are_no_threads, parents_fit};
+use crate::parents::{parents_are_no_objects, parents_are_no_threads, parents_differ, parents_fit};
 use crate::prelude_fields::prelude_is_closed;
+use crate::short_words::words_fit;
 use crate::texts::texts_fit;
 use std::alloc::Global;
 use ty_flow::locals_are_set_first;
@@ -64,16 +66,19 @@ fn members_fit(p: &Program) -> bool
 
 // What the parents of each class tell.
 fn parents_are_right(p: &Program) -> bool
-    ensures { IsTrue result ↔ (ParentsFit p.now × ParentsAreNoObjects p.now × ParentsAreNoThreads p.now) }
+    ensures { IsTrue result ↔ (ParentsDiffer p.now × ParentsFit p.now × ParentsAreNoObjects p.now × ParentsAreNoThreads p.now) }
 {
-    parents_fit(p) && parents_are_no_objects(p) && parents_are_no_threads(p)
+    parents_differ(p) && parents_fit(p) && parents_are_no_objects(p) && parents_are_no_threads(p)
 }
 
 // What the names and types of classes tell.
 fn names_are_right(alloc: Global, p: &Program) -> Result<bool, NoMemory>
-    ensures { IfOk result (λ answer. IsTrue answer ↔ (BeginsWithPrelude p.now × FilesDiffer p.now × TypesAreDeclared p.now)) }
+    ensures { IfOk result (λ answer. IsTrue answer ↔ (BeginsWithPrelude p.now × WordsFit p.now × FilesDiffer p.now × TypesAreDeclared p.now)) }
 {
     if !begins_with_prelude(alloc, p)? {
+        return Ok(false);
+    }
+    if !words_fit(alloc, p)? {
         return Ok(false);
     }
     if !files_differ(alloc, p)? {
@@ -84,12 +89,15 @@ fn names_are_right(alloc: Global, p: &Program) -> Result<bool, NoMemory>
 
 // What the classes tell together.
 fn classes_fit(alloc: Global, p: &Program) -> Result<bool, NoMemory>
-    ensures { IfOk result (λ answer. IsTrue answer ↔ (HasLinearisations p.now × HasMain p.now × FindsAll p.now)) }
+    ensures { IfOk result (λ answer. IsTrue answer ↔ (HasLinearisations p.now × HasMain p.now × MembersAgree p.now × FindsAll p.now)) }
 {
     if !has_linearisations(alloc, p)? {
         return Ok(false);
     }
     if !has_main(alloc, p)? {
+        return Ok(false);
+    }
+    if !members_agree(p) {
         return Ok(false);
     }
     finds_all(p)

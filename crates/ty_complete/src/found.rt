@@ -5,15 +5,13 @@ ghost use Rattle.ty_complete.specs.Complete.{HasObjects, FindsIts, FindsAll};
 ghost use Rattle.ty_complete.specs.Finding.{FindsIn};
 
 use crate::NoMemory;
-use crate::agreeing::all_agree;
 use crate::methods_found::{all_found, supers_found};
 use crate::objects::lacks_objects;
 use sqlite_items::at;
 use ty_prog::Program;
 
-/// Whether in each class of which there may be objects each name of a method that isn't static is found, methods of one
-/// name agree in parameters and result, and what `super` calls is found (SLS 5.1.3, 5.1.4, 6.5). Errors: want of
-/// memory, also for more than 2^32 classes.
+/// Whether in each class of which there may be objects each name of a method that isn't static is found, and what
+/// `super` calls is found (SLS 5.1.3, 6.5). Errors: want of memory, for more than 2^32 classes.
 pub fn finds_all(p: &Program) -> Result<bool, NoMemory>
     ensures { IfOk result (λ answer. IsTrue answer ↔ FindsAll p.now) }
 {
@@ -50,7 +48,5 @@ fn finds_its(p: &Program, class: u32) -> bool
 fn finds_in(p: &Program, class: u32, linear: &[u32]) -> bool
     ensures { IsTrue result ↔ FindsIn p.now class linear.now }
 {
-    all_found(p, class, linear)
-        && all_agree(p.classes.as_slice(), linear)
-        && supers_found(p, class, linear)
+    all_found(p, class, linear) && supers_found(p, class, linear)
 }

@@ -1,13 +1,40 @@
 //! Whether the parents of each class fit each other. Plain, for tests on small programs.
 
-ghost use Rattle.std.specs.Prelude.{◌≡◌, ◌↔◌, IsTrue, drop, not, nat_eq};
-ghost use Rattle.std.specs.List.{list_all};
-ghost use Rattle.ty_complete.specs.Complete.{superclass_fits, fits_below, parents_fit, ParentsFit, ParentsAreNoObjects, ParentsAreNoThreads, THREAD};
+ghost use Rattle.std.specs.Prelude.{◌≡◌, ◌↔◌, ◌≢◌, IsTrue, drop, not, nat_eq};
+ghost use Rattle.std.specs.List.{All, AllPairs, list_all};
+ghost use Rattle.ty_complete.specs.Complete.{superclass_fits, fits_below, parents_fit, ParentsDiffer, ParentsFit, ParentsAreNoObjects, ParentsAreNoThreads, THREAD};
 ghost use Rattle.ty_conform.specs.Kinds.{is_trait, is_object, superclass, superclass_of, reaches};
 
 use ty_conform::{is_object, is_trait, reaches, superclass, superclass_of};
 use ty_prog::prelude_number::THREAD;
 use ty_prog::{Class, Program};
+
+/// Whether no class has one parent twice (SLS 5.1).
+pub fn parents_differ(p: &Program) -> bool
+    ensures { IsTrue result ↔ ParentsDiffer p.now }
+{
+    p.classes
+        .as_slice()
+        .iter()
+        .all(|class| all_apart(class.parents.as_slice()))
+}
+
+fn all_apart(numbers: &[u32]) -> bool
+    ensures { IsTrue result ↔ AllPairs (λ one other. one ≢ other) numbers.now }
+{
+    for (i, number) in numbers.iter().enumerate() {
+        if !is_none_of(*number, &numbers[i + 1..]) {
+            return false;
+        }
+    }
+    true
+}
+
+fn is_none_of(number: u32, others: &[u32]) -> bool
+    ensures { IsTrue result ↔ All (λ other. number ≢ other) others.now }
+{
+    others.iter().all(|other| number != *other)
+}
 
 /// Whether each parent after the first is a trait, and the superclass of each trait is in the linearisation of the
 /// superclass of each class that has the trait (SLS 5.1).

@@ -39,7 +39,8 @@ pub fn words(alloc: Global, name: &Name) -> Result<Vec<Word>, AllocError>
     words_of(alloc, characters.as_slice())
 }
 
-fn characters(alloc: Global, text: &str) -> Result<Vec<char>, AllocError>
+/// The characters of a text. Errors: want of memory.
+pub(crate) fn characters(alloc: Global, text: &str) -> Result<Vec<char>, AllocError>
     ensures { IfOk result (λ characters. characters.items ≡ chars text.now) }
 {
     text.chars().collect(alloc)

@@ -1,5 +1,5 @@
--- That the accessors of traits are found: of a name for which a trait has a getter, a setter or a lazy member, each class
--- with the trait has that one, so its lowering may give the class a method of the name (SLS 5.1.4).
+-- That the accessors of traits are found: of a name for which a trait has a getter or a setter, each class with the trait
+-- has that one, so its lowering may give the class a method of the name (SLS 5.1.4).
 use Rattle.std.specs.Prelude.{ℕ, Bool, true, false, ◌||◌, not, nat_eq, nat_le, IsTrue, IsFalse, slice_get, option_map}
 use Rattle.std.specs.List.{list_all}
 use Rattle.std.specs.Option.{unwrap_or}
@@ -10,13 +10,11 @@ use Rattle.ty_prog.specs.declared.expr.Expr.{out-Expr}
 use Rattle.ty_prog.specs.Find.{find}
 use Rattle.ty_conform.specs.Kinds.{is_trait, is_trait_kind}
 use Rattle.ty_good.specs.Each.{EachClass}
-use Rattle.ty_good.specs.LazyGets.{level_gets_own}
 use Rattle.ty_good.specs.TraitFields.{level_accesses}
 
--- a method that reads or stores the field of its name, or reads the lazy member of its name, in the class with a number
+-- a method that reads or stores the field of its name, in the class with a number
 abbrev pub is_accessor : ℕ → Class → Method → Bool
-is_accessor number class m =
-    unwrap_or (option_map (λ body. level_accesses number class.fields m.name (out-Expr body) || level_gets_own number class.cells m.name (out-Expr body)) m.body) false
+is_accessor number class m = unwrap_or (option_map (λ body. level_accesses number class.fields m.name (out-Expr body)) m.body) false
 
 module _ (p : Program) (class : ℕ) where
   -- the class finds a method of this name in another class

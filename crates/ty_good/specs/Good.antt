@@ -11,6 +11,7 @@ use Rattle.ty_good.specs.Traits.{MixinsFit, SupersStand, TraitsHaveRoom, TraitsL
 use Rattle.ty_good.specs.Modules.{ModulesSet}
 use Rattle.ty_good.specs.Accessors.{AccessorsFound}
 use Rattle.ty_good.specs.LazyGets.{LazyGetsStand}
+use Rattle.ty_good.specs.LazyMembers.{CellsRead, LazyMembersFound}
 use Rattle.ty_good.specs.TraitFields.{TraitFieldsStand}
 use Rattle.ty_good.specs.Selection.{SelectsFound}
 
@@ -27,6 +28,8 @@ pub record GoodWith (k : ℕ) (p : Program) (locals : List ClassLocals) : Type 0
   pub traits : TraitsLowered k p
   pub modules : ModulesSet k p
   pub lazy_gets : LazyGetsStand k p
+  pub cells : CellsRead k p
+  pub lazy_members : LazyMembersFound k p
   pub trait_fields : TraitFieldsStand k p
   pub accessors : AccessorsFound k p
   pub selection : SelectsFound k p

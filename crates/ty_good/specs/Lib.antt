@@ -4,6 +4,7 @@ pub mod Each
 pub mod Forms
 pub mod Good
 pub mod LazyGets
+pub mod LazyMembers
 pub mod Modules
 pub mod Names
 pub mod Numbers

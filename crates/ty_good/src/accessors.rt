@@ -6,15 +6,14 @@ ghost use Rattle.ty_good.specs.Accessors.{is_accessor, finds_in, is_kept, keeps_
 
 use crate::NoMemory;
 use crate::each::{ClassRule, each_class};
-use crate::lazy_gets::gets_own;
 use crate::trait_fields::is_access;
 use sqlite_items::at;
 use std::alloc::{AllocError, Global};
 use ty_conform::{is_trait, is_trait_kind};
 use ty_prog::{Class, Method, Program, find};
 
-/// Whether, until the lowering of traits, each class that isn't a trait finds the getters, the setters and the methods
-/// of lazy members of the traits of its linearisation; k is from 0 to 4. Errors: want of memory, also for more than 2^32
+/// Whether, until the lowering of traits, each class that isn't a trait finds the getters and the setters of the traits of
+/// its linearisation; k is from 0 to 4. Errors: want of memory, also for more than 2^32
 /// classes.
 pub fn accessors_found(alloc: Global, k: u32, p: &Program) -> Result<bool, NoMemory>
     ensures { IfOk result (λ answer. IsTrue answer ↔ AccessorsFound k p.now) }
@@ -105,21 +104,18 @@ fn is_kept(
     Ok(!accesses || finds_in(p, class, number, m))
 }
 
-// Whether a method reads or stores the field of its name, or reads the lazy member of its name.
+// Whether a method reads or stores the field of its name.
 fn is_accessor(alloc: Global, number: u32, class: &Class, m: &Method) -> Result<bool, AllocError>
     ensures { IfOk result (λ answer. answer ≡ is_accessor number class.now m.now) }
 {
     match &m.body {
-        Some(body) => {
-            let stored = is_access(alloc, number, class.fields.as_slice(), &m.name, body)?;
-            Ok(stored || gets_own(number, class.cells.as_slice(), &m.name, body))
-        }
+        Some(body) => is_access(alloc, number, class.fields.as_slice(), &m.name, body),
         None => Ok(false),
     }
 }
 
-// Whether a class finds a method of this name in another class.
-fn finds_in(p: &Program, class: u32, above: u32, m: &Method) -> bool
+/// Whether a class finds a method of this name in another class.
+pub(crate) fn finds_in(p: &Program, class: u32, above: u32, m: &Method) -> bool
     ensures { result ≡ finds_in p.now class above m.now }
 {
     match find(p, class, &m.name) {

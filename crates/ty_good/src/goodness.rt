@@ -5,6 +5,7 @@ ghost use Rattle.ty_good.specs.Accessors.{AccessorsFound};
 ghost use Rattle.ty_good.specs.Forms.{HasForms};
 ghost use Rattle.ty_good.specs.Good.{GoodWith};
 ghost use Rattle.ty_good.specs.LazyGets.{LazyGetsStand};
+ghost use Rattle.ty_good.specs.LazyMembers.{CellsRead, LazyMembersFound};
 ghost use Rattle.ty_good.specs.Modules.{ModulesSet};
 ghost use Rattle.ty_good.specs.Names.{NamesMade};
 ghost use Rattle.ty_good.specs.Selection.{SelectsFound};
@@ -15,6 +16,7 @@ use crate::NoMemory;
 use crate::accessors::accessors_found;
 use crate::forms::has_forms;
 use crate::lazy_gets::lazy_gets_stand;
+use crate::lazy_members::{cells_read, lazy_members_found};
 use crate::modules::modules_set;
 use crate::names::names_made;
 use crate::numbers::numbers_in_range;
@@ -54,6 +56,9 @@ pub fn is_good_with(
     if !members_fit(alloc, k, p)? {
         return Ok(false);
     }
+    if !lazy_members_fit(alloc, k, p)? {
+        return Ok(false);
+    }
     if !accesses_fit(alloc, k, p)? {
         return Ok(false);
     }
@@ -73,13 +78,23 @@ fn members_fit(alloc: Global, k: u32, p: &Program) -> Result<bool, NoMemory>
     selects_found(alloc, k, p)
 }
 
-// Where its lazy members and the fields of its traits are read and stored.
-fn accesses_fit(alloc: Global, k: u32, p: &Program) -> Result<bool, NoMemory>
-    ensures { IfOk result (λ answer. IsTrue answer ↔ (LazyGetsStand k p.now × TraitFieldsStand k p.now × AccessorsFound k p.now)) }
+// Where its lazy members are read.
+fn lazy_members_fit(alloc: Global, k: u32, p: &Program) -> Result<bool, NoMemory>
+    ensures { IfOk result (λ answer. IsTrue answer ↔ (LazyGetsStand k p.now × CellsRead k p.now × LazyMembersFound k p.now)) }
 {
     if !lazy_gets_stand(alloc, k, p)? {
         return Ok(false);
     }
+    if !cells_read(alloc, k, p)? {
+        return Ok(false);
+    }
+    lazy_members_found(alloc, k, p)
+}
+
+// Where the fields of its traits are read and stored.
+fn accesses_fit(alloc: Global, k: u32, p: &Program) -> Result<bool, NoMemory>
+    ensures { IfOk result (λ answer. IsTrue answer ↔ (TraitFieldsStand k p.now × AccessorsFound k p.now)) }
+{
     if !trait_fields_stand(alloc, k, p)? {
         return Ok(false);
     }

@@ -31,8 +31,6 @@ mod rebuilding;
 mod rebuilt;
 mod stage;
 mod tested;
-#[cfg(test)]
-mod tests;
 mod ty;
 mod wait;
 

@@ -62,3 +62,18 @@ pub returns-in-AccessorsFound : goal.returns-in-AccessorsFound
 returns-in-AccessorsFound c =
     subst (λ part. IfOk c.accessors_found.result (λ answer. IsTrue answer ↔ Holds part c.args.k c.args.p.now c.args.locals.now))
     (sym c.in-AccessorsFound.is) c.accessors_found.ensures
+
+pub returns-in-CellsRead : goal.returns-in-CellsRead
+returns-in-CellsRead c =
+    subst (λ part. IfOk c.cells_read.result (λ answer. IsTrue answer ↔ Holds part c.args.k c.args.p.now c.args.locals.now))
+    (sym c.in-CellsRead.is) c.cells_read.ensures
+
+pub returns-in-LazyMembersFound : goal.returns-in-LazyMembersFound
+returns-in-LazyMembersFound c =
+    subst (λ part. IfOk c.lazy_members_found.result (λ answer. IsTrue answer ↔ Holds part c.args.k c.args.p.now c.args.locals.now))
+    (sym c.in-LazyMembersFound.is) c.lazy_members_found.ensures
+
+pub returns-in-MembersAgree : goal.returns-in-MembersAgree
+returns-in-MembersAgree c =
+    subst (λ part. IsTrue c.members_agree.result ↔ Holds part c.args.k c.args.p.now c.args.locals.now)
+    (sym c.in-MembersAgree.is) c.members_agree.ensures

@@ -1,4 +1,4 @@
-use Rattle.std.proofs.Common.{ℕ, List, ◌+◌, refl, arith}
+use Rattle.std.proofs.Common.{ℕ, List, refl, arith}
 use Rattle.std.specs.Prelude.{◌≢◌}
 use Rattle.ty_complete.proofs.Pairs.{pairs_at, pairs_more}
 use Rattle.ty_complete.proofs.files.all_apart.Goals as goal
