@@ -8,3 +8,6 @@ pub mod Local
 pub mod Heaps
 pub mod Shared
 pub mod Needing
+pub mod Natives
+pub mod HeapStep
+pub mod Machine

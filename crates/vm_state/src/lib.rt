@@ -25,12 +25,12 @@ pub use entering::{begin, enter};
 pub use frame::Frame;
 pub use going::{branch, go, place};
 pub use heap::{Heap, Init, Object, State};
-pub use laws::rows;
+pub use laws::{ends, rows};
 pub use linkage::{
     class_of, code_of, instr_at, instr_in, is_initialiser, is_of, is_result, method_of, ref_at,
 };
 pub use operands::Operands;
-pub use outcomes::{Effect, HeapEffect, HeapMove, LocalStep, Readiness, StuckKind};
+pub use outcomes::{Ability, Effect, HeapEffect, HeapMove, LocalStep, Readiness, StuckKind};
 pub use pushes::{pop_off, push, replace_top, skip};
 pub use seq::Seq;
 pub use stack::Stack;

@@ -71,6 +71,15 @@ pub enum HeapMove {
     Memory,
 }
 
+/// What a thread can do next.
+#[derive(Clone, Copy, Debug)]
+pub enum Ability {
+    Moves,
+    Waits,
+    Ended,
+    Stuck(StuckKind),
+}
+
 /// How far a thread finds a class initialised that it needs (JVMS 5.5).
 #[derive(Clone, Copy, Debug)]
 pub enum Readiness {
