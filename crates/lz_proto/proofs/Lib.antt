@@ -1,0 +1,5 @@
+pub mod Lists
+pub mod Kept
+pub mod Writing
+pub mod Latches
+pub mod Acting

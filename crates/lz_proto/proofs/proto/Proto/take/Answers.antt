@@ -1,0 +1,11 @@
+use Rattle.std.proofs.Common.{◌≡◌, ◌≢◌, ℕ, sym, ap, refl, ◌∙◌}
+use Rattle.lz_proto.specs.declared.state.State.TheVariants.{Evaluating, Waiting}
+use Rattle.lz_proto.specs.declared.pos.Pos.TheVariants as pos
+use Rattle.lz_proto.proofs.Writing.{claims_keep, stores_keep, swaps_keep}
+use Rattle.lz_proto.proofs.Latches.{marks_keep, places_keep, opens_keep}
+use Rattle.lz_proto.proofs.Acting.{ended_keeps, relied, goes_on, left_latched, read_keeps}
+use Rattle.lz_proto.proofs.proto.Proto.take.Goals as goal
+
+pub stand-requires-clause-kept : goal.stand-requires-clause-kept
+stand-requires-clause-kept c =
+    goes_on c.args.self.now c.requires.kept.0 c.requires.kept.1 c.args.who c.requires.there (pos.Take c.args.cell c.args.ended_with) (pos.Swap c.args.cell c.args.ended_with c.in-Waiting.latch) c.requires.at refl (λ d. refl) ((relied c.args.self.now c.requires.kept.0 c.requires.kept.1 c.args.who c.requires.there (pos.Take c.args.cell c.args.ended_with) c.requires.at).0, sym c.cell.ensures ∙ c.in-Waiting.is) _ refl

@@ -1,0 +1,17 @@
+//! The protocol of lazy members, by itself: cells, latches and accessors, moved one step at a time.
+#![tactic(auto)]
+
+mod act;
+mod once;
+mod pos;
+mod proto;
+mod state;
+mod stepped;
+mod stepping;
+
+pub use act::Act;
+pub use once::Once;
+pub use pos::Pos;
+pub use proto::Proto;
+pub use state::State;
+pub use stepped::Stepped;
