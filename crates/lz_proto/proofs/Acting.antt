@@ -12,7 +12,7 @@ use Rattle.lz_proto.specs.Steps.{Outcome, Moves, Waits, Refuses, result_of, ende
 use Rattle.lz_proto.specs.Once.{is_inside}
 use Rattle.lz_proto.specs.Kept.{Stage, Set, is_over, IsShared, IsLatched, Keeps, IsIdle, IsRun, Holds, IsKept}
 use Rattle.lz_proto.proofs.Kept.{is_opening, goes_keeps}
-use Rattle.lz_proto.proofs.Writing.{claims_keep, stores_keep, swaps_keep, ended_outside}
+use Rattle.lz_proto.proofs.Writing.{claims_keep, stores_keep, swaps_keep}
 use Rattle.lz_proto.proofs.Latches.{made, marks_keep, places_keep, opens_keep}
 
 abbrev pub number : Outcome → ℕ
@@ -36,7 +36,7 @@ pub ended_keeps : (r : Option ℕ) (cells : List State) (n : ℕ) (stage : ℕ �
 ended_keeps (Some v) cells n stage who = tt
 ended_keeps None cells n stage who = tt
 
-rests_closed : (pos : Pos) → has_ended pos ≡ true → is_opening pos ≡ false
+pub rests_closed : (pos : Pos) → has_ended pos ≡ true → is_opening pos ≡ false
 rests_closed Idle e = refl
 rests_closed (Look c) e = refl
 rests_closed (Claim c) e = refl
@@ -52,7 +52,7 @@ rests_closed (Got v) e = refl
 rests_closed Failed e = refl
 rests_closed Cycle e = refl
 
-rests_outside : (pos : Pos) → has_ended pos ≡ true → (c : ℕ) → is_inside c pos ≡ false
+pub rests_outside : (pos : Pos) → has_ended pos ≡ true → (c : ℕ) → is_inside c pos ≡ false
 rests_outside Idle e c = refl
 rests_outside (Look d) e c = refl
 rests_outside (Claim d) e c = refl

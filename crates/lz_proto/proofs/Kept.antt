@@ -1,15 +1,14 @@
 -- Each step keeps what every state of the protocol keeps.
-use Rattle.std.proofs.Common.{◌≡◌, ◌≢◌, ℕ, suc, ◌<◌, ◌≤◌, ◌+◌, List, [], ◌∷◌, ◌++◌, length, get_or, slice_set, Bool, true, false, ◌⊎◌, inl, inr, ⊎_elim, nat_eq, Option, Some, None, sym, ap, subst, refl, ◌∙◌, arith, eqb-true, eq-eqb, ne_eqb, true≢false}
+use Rattle.std.proofs.Common.{◌≡◌, ◌≢◌, ℕ, ◌<◌, ◌≤◌, List, length, get_or, slice_set, Bool, true, false, ◌⊎◌, inl, inr, Option, sym, ap, subst, refl, ◌∙◌, arith, eq-eqb, true≢false}
 use Rattle.std.proofs.lemmas.List.{length-set, get_or-set_same, get_or-set_other}
-use Rattle.runs.specs.System.{put}
-use Rattle.runs.proofs.Putting.{put-same, put-other, same_or_not, each, everywhere}
+use Rattle.runs.proofs.Putting.{same_or_not, everywhere}
 use Rattle.lz_proto.specs.declared.state.State.{State}
 use Rattle.lz_proto.specs.declared.state.State.TheVariants.{Empty, Evaluating, Waiting, Done}
 use Rattle.lz_proto.specs.declared.pos.Pos.{Pos}
 use Rattle.lz_proto.specs.declared.pos.Pos.TheVariants.{Idle, Look, Claim, Body, Store, Take, Swap, Open, Mark, Place, Sleep, Got, Failed, Cycle}
-use Rattle.lz_proto.specs.Protocol.{Protocol, content, position, thread, is_open, named}
+use Rattle.lz_proto.specs.Protocol.{Protocol, content, position, thread, named}
 use Rattle.lz_proto.specs.Once.{is_inside}
-use Rattle.lz_proto.specs.Kept.{Stage, Mine, Set, Going, Over, is_over, IsShared, IsLatched, Keeps, IsRunBy, IsIdle, IsRun, Holds, IsKept}
+use Rattle.lz_proto.specs.Kept.{Stage, Mine, Set, Going, IsShared, IsLatched, Keeps, IsRun, Holds}
 use Rattle.lz_proto.proofs.Lists.{each_item}
 
 -- an accessor that is about to open a latch

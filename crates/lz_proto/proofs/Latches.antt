@@ -1,19 +1,18 @@
 -- Latches that are made, placed and opened keep what every state keeps.
-use Rattle.std.proofs.Common.{◌≡◌, ◌≢◌, ℕ, suc, ◌<◌, ◌≤◌, ◌+◌, ◌-◌, List, [], ◌∷◌, ◌++◌, length, get_or, slice_set, Bool, true, false, ◌⊎◌, inl, inr, ⊎_elim, nat_eq, Option, Some, None, sym, ap, subst, refl, ◌∙◌, arith, true≢false}
-use Rattle.std.proofs.lemmas.List.{length-set, length-append, get_or-set_same, get_or-set_other, get_or_past, get_or_append_left}
+use Rattle.std.proofs.Common.{◌≡◌, ◌≢◌, ℕ, ◌<◌, ◌≤◌, ◌+◌, ◌-◌, List, [], ◌∷◌, ◌++◌, length, get_or, slice_set, Bool, true, false, ◌⊎◌, inl, inr, Option, sym, ap, subst, refl, ◌∙◌, arith, true≢false}
+use Rattle.std.proofs.lemmas.List.{length-set, length-append, get_or_past, get_or_append_left}
 use Rattle.std.proofs.Math.Seq.{get_or-append_seam}
 use Rattle.runs.specs.System.{put}
 use Rattle.runs.proofs.Putting.{put-same, put-other, same_or_not, each, everywhere}
 use Rattle.lz_proto.specs.declared.state.State.{State}
-use Rattle.lz_proto.specs.declared.state.State.TheVariants.{Empty, Evaluating, Waiting, Done}
+use Rattle.lz_proto.specs.declared.state.State.TheVariants.{Empty, Evaluating, Waiting}
 use Rattle.lz_proto.specs.declared.pos.Pos.{Pos}
-use Rattle.lz_proto.specs.declared.pos.Pos.TheVariants.{Idle, Look, Claim, Body, Store, Take, Swap, Open, Mark, Place, Sleep, Got, Failed, Cycle}
-use Rattle.lz_proto.specs.Protocol.{Protocol, content, position, thread, is_open, named}
+use Rattle.lz_proto.specs.declared.pos.Pos.TheVariants.{Idle, Look, Open, Mark, Place}
+use Rattle.lz_proto.specs.Protocol.{Protocol, content, position, is_open, named}
 use Rattle.lz_proto.specs.Steps.{ended}
-use Rattle.lz_proto.specs.Once.{is_inside}
 use Rattle.lz_proto.specs.Kept.{Stage, Mine, Set, Going, Over, is_over, IsShared, IsLatched, Keeps, IsRunBy, IsRun, Holds}
 use Rattle.lz_proto.proofs.Lists.{each_item}
-use Rattle.lz_proto.proofs.Kept.{keeps_moves, run_moves, is_opening, inside_same, moved_there, moved_other, still_going, others_keep, all_run, still_one, written_there, written_other}
+use Rattle.lz_proto.proofs.Kept.{keeps_moves, run_moves, inside_same, moved_other, still_going, others_keep, all_run, written_there, written_other}
 use Rattle.lz_proto.proofs.Writing.{wrote, IsSet, waiting_same, set_same, going_same, mine_same, ended_outside}
 
 -- a latch of an accessor that is about to place it, or to open it

@@ -3,3 +3,8 @@ pub mod Kept
 pub mod Writing
 pub mod Latches
 pub mod Acting
+pub mod Following
+pub mod Rules
+pub mod Waiters
+pub mod Finding
+pub mod New

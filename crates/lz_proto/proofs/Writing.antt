@@ -1,18 +1,18 @@
 -- The exchanges of a cell's content keep what every state keeps.
-use Rattle.std.proofs.Common.{◌≡◌, ◌≢◌, ℕ, suc, ◌<◌, ◌≤◌, ◌+◌, List, [], ◌∷◌, ◌++◌, length, get_or, slice_set, Bool, true, false, ◌⊎◌, inl, inr, ⊎_elim, nat_eq, Option, Some, None, sym, ap, subst, refl, ◌∙◌, arith, eqb-true, eq-eqb, ne_eqb, true≢false}
+use Rattle.std.proofs.Common.{◌≡◌, ◌≢◌, ℕ, ◌<◌, length, get_or, slice_set, Bool, true, false, ◌⊎◌, inl, inr, ⊎_elim, nat_eq, Option, Some, None, sym, ap, subst, refl, ◌∙◌, eq-eqb, ne_eqb, true≢false}
 use Rattle.std.proofs.lemmas.List.{length-set}
 use Rattle.runs.specs.System.{put}
-use Rattle.runs.proofs.Putting.{put-same, put-other, same_or_not, each, everywhere}
+use Rattle.runs.proofs.Putting.{put-same, put-other, same_or_not, each}
 use Rattle.lz_proto.specs.declared.state.State.{State}
-use Rattle.lz_proto.specs.declared.state.State.TheVariants.{Empty, Evaluating, Waiting, Done}
+use Rattle.lz_proto.specs.declared.state.State.TheVariants.{Empty, Evaluating, Waiting}
 use Rattle.lz_proto.specs.declared.pos.Pos.{Pos}
-use Rattle.lz_proto.specs.declared.pos.Pos.TheVariants.{Idle, Look, Claim, Body, Store, Take, Swap, Open, Mark, Place, Sleep, Got, Failed, Cycle}
-use Rattle.lz_proto.specs.Protocol.{Protocol, content, position, thread, is_open, named}
+use Rattle.lz_proto.specs.declared.pos.Pos.TheVariants.{Idle, Claim, Body, Store, Swap, Open}
+use Rattle.lz_proto.specs.Protocol.{Protocol, content, position, thread, is_open}
 use Rattle.lz_proto.specs.Steps.{result_of, ended}
 use Rattle.lz_proto.specs.Once.{is_inside}
-use Rattle.lz_proto.specs.Kept.{Stage, Mine, Set, Going, Over, is_over, IsShared, IsLatched, Keeps, IsRunBy, IsIdle, IsRun, Holds, IsKept}
+use Rattle.lz_proto.specs.Kept.{Stage, Mine, Set, Going, Over, is_over, IsShared, IsLatched, Keeps, IsIdle, IsRun, Holds}
 use Rattle.lz_proto.proofs.Lists.{each_item}
-use Rattle.lz_proto.proofs.Kept.{moved_there, moved_other, still_going, others_keep, all_run, still_one, set_stays, held_stays, was_inside, inside_same, written_there, written_other}
+use Rattle.lz_proto.proofs.Kept.{moved_there, still_going, others_keep, all_run, still_one, set_stays, held_stays, was_inside, written_there, written_other}
 
 -- what a result leaves in a cell is no latch, and its accessor is outside
 pub result_unlatched : (r : Option ℕ) → IsLatched (result_of r) → ⊥

@@ -1,5 +1,5 @@
 -- The rules of a cell that is written once, and what cells and accessors are by them (SIP-20).
-use Rattle.std.specs.Prelude.{◌≡◌, ℕ, List, Bool, true, false, nat_eq, Option, Some, None, unwrap_or, position}
+use Rattle.std.specs.Prelude.{◌≡◌, ℕ, suc, List, [], ◌∷◌, Bool, true, false, nat_eq, if◌then◌else◌, Option, Some, None}
 use Rattle.lz_proto.specs.declared.state.State.{State}
 use Rattle.lz_proto.specs.declared.state.State.TheVariants as state
 use Rattle.lz_proto.specs.declared.pos.Pos.{Pos}
@@ -8,6 +8,9 @@ use Rattle.lz_proto.specs.declared.once.Once.{Once}
 use Rattle.lz_proto.specs.declared.once.Once.TheVariants as once
 use Rattle.lz_proto.specs.Protocol.{Protocol, content, thread}
 use Rattle.lz_proto.specs.Protocol.{position as stands}
+use Rattle.lz_proto.specs.Steps.{has_ended}
+use Rattle.lz_proto.specs.declared.act.Act.{Act}
+use Rattle.lz_proto.specs.declared.act.Act.TheVariants.{Read}
 
 -- whether an accessor has claimed this cell, and hasn't given it a result yet
 abbrev pub is_inside : ℕ → Pos → Bool
@@ -17,9 +20,14 @@ is_inside c (Take d r) = nat_eq d c
 is_inside c (Swap d r latch) = nat_eq d c
 is_inside c other = false
 
+-- the first accessor that is inside a cell
+unfoldable pub first_inside : ℕ → List Pos → ℕ
+first_inside c [] = 0
+first_inside c (pos ∷ at) = if is_inside c pos then 0 else suc (first_inside c at)
+
 -- the accessor that runs the initialiser of a cell
 abbrev pub runner : Protocol → ℕ → ℕ
-runner p c = unwrap_or (position (is_inside c) p.at) 0
+runner p c = first_inside c p.at
 
 abbrev pub once_of : Protocol → ℕ → State → Once
 once_of p c state.Empty = once.Empty
@@ -66,24 +74,18 @@ pub data Rule (p : Protocol) (who c : ℕ) : Once → Task → Once → Task →
   stores : (v : ℕ) → Rule p who c (once.Running who) (Ends c (Some v)) (once.Done v) (Tells (Some v))
   fails : Rule p who c (once.Running who) (Ends c None) once.Empty (Tells None)
 
--- a task at which an accessor may be entered
-pub data IsOver : Task → Type 0 where
-  rests : IsOver Rests
-  tells : (r : Option ℕ) → IsOver (Tells r)
-  meets : IsOver Meets
-
 -- cells stay what they are, but for this one
 abbrev pub OthersStay : Protocol → ℕ → Protocol → Type 0
 OthersStay p c q = (d : ℕ) → (d ≡ c → ⊥) → abstract_of q d ≡ abstract_of p d
-
--- an accessor's step: nothing is seen of it, it begins to read, or its cell makes a move
-pub data Follows (p : Protocol) (who : ℕ) (q : Protocol) : Type 0 where
-  silent : ((c : ℕ) → abstract_of q c ≡ abstract_of p c) → task (stands q who) ≡ task (stands p who) → Follows p who q
-  begins : (c : ℕ) → ((d : ℕ) → abstract_of q d ≡ abstract_of p d) → IsOver (task (stands p who)) → task (stands q who) ≡ Reads c → Follows p who q
-  moves : (c : ℕ) → OthersStay p c q → Rule p who c (abstract_of p c) (task (stands p who)) (abstract_of q c) (task (stands q who)) → Follows p who q
 
 -- the three exchanges at which a cell changes to its readers: null for `Evaluating`, `Evaluating` or the latch for the result
 pub data IsExchange (c : ℕ) : Pos → Type 0 where
   claim : IsExchange c (Claim c)
   store : (r : Option ℕ) → IsExchange c (Store c r)
   swap : (r : Option ℕ) (latch : ℕ) → IsExchange c (Swap c r latch)
+
+-- an accessor's step: nothing is seen of it, or it begins to read, or it makes a move on its cell, which changes at an exchange alone
+pub data Follows (p : Protocol) (who : ℕ) (act : Act) (q : Protocol) : Type 0 where
+  silent : ((d : ℕ) → abstract_of q d ≡ abstract_of p d) → task (stands q who) ≡ task (stands p who) → Follows p who act q
+  begins : (c : ℕ) → act ≡ Read c → ((d : ℕ) → abstract_of q d ≡ abstract_of p d) → has_ended (stands p who) ≡ true → task (stands q who) ≡ Reads c → Follows p who act q
+  moves : (c : ℕ) → OthersStay p c q → Rule p who c (abstract_of p c) (task (stands p who)) (abstract_of q c) (task (stands q who)) → ((abstract_of q c ≡ abstract_of p c → ⊥) → IsExchange c (stands p who)) → Follows p who act q

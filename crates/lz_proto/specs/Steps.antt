@@ -1,5 +1,5 @@
 -- What an act of an accessor does (SIP-20).
-use Rattle.std.specs.Prelude.{ℕ, List, [], ◌∷◌, ◌++◌, ◌-◌, Bool, true, false, nat_eq, nat_lt, if◌then◌else◌, ◌&&◌, Option, Some, None, length, slice_set}
+use Rattle.std.specs.Prelude.{ℕ, [], ◌∷◌, ◌++◌, ◌-◌, Bool, true, false, nat_eq, nat_lt, if◌then◌else◌, ◌&&◌, Option, Some, None, length, slice_set}
 use Rattle.lz_proto.specs.declared.state.State.{State}
 use Rattle.lz_proto.specs.declared.state.State.TheVariants.{Empty, Evaluating, Waiting, Done}
 use Rattle.lz_proto.specs.declared.pos.Pos.{Pos}

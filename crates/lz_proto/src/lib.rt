@@ -2,16 +2,22 @@
 #![tactic(auto)]
 
 mod act;
+mod laws;
 mod once;
 mod pos;
 mod proto;
+mod reading;
 mod state;
 mod stepped;
 mod stepping;
 
 pub use act::Act;
+pub use laws::{steps, waiting};
 pub use once::Once;
 pub use pos::Pos;
 pub use proto::Proto;
 pub use state::State;
 pub use stepped::Stepped;
+
+#[cfg(test)]
+mod tests;

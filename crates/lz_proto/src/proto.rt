@@ -1,12 +1,16 @@
 //! The protocol's state.
 
-ghost use Rattle.std.specs.Prelude.{◌≡◌, ◌<◌, ◌++◌, [], ◌∷◌, ◌-◌, ℕ, Option, true, false, length, slice_set, get_or, nat_lt};
+ghost use Rattle.std.specs.Prelude.{◌≡◌, ◌<◌, ◌++◌, [], ◌∷◌, ◌-◌, ℕ, Option, true, false, length, slice_set, get_or, nat_lt, ◌≤◌, ◌^◌, IfOk, OnOk, OnErr};
 ghost use Rattle.lz_proto.specs.Protocol.{Protocol, content, position, thread, is_open, named};
 ghost use Rattle.lz_proto.specs.Kept.{IsKept};
+ghost use Rattle.lz_proto.specs.Once.{first_inside};
+ghost use Rattle.lz_proto.specs.Promises.{IsNew};
 ghost use Rattle.lz_proto.specs.declared.pos.Pos.TheVariants as pos;
 
 use crate::pos::Pos;
 use crate::state::State;
+use sl_base::NoMemory;
+use std::alloc::Global;
 use std::marker::Model;
 
 /// Cells, latches and accessors. Contracts see their lists, and how many latches may still be made.
@@ -29,10 +33,67 @@ impl Model for Proto {
 
     ghost view = { λ p. record { cells = p.cells.items; opened = p.opened.items; owner = p.owner.items; at = p.at.items; threads = p.threads.items; spare = p.spare } };
 
-    ghost invariant = { λ p. IsKept (record { cells = p.cells.items; opened = p.opened.items; owner = p.owner.items; at = p.at.items; threads = p.threads.items; spare = p.spare }) × (length p.opened.items + p.spare < 2 ^ 32) × (length p.opened.items + p.spare ≤ vec_capacity p.opened) × (length p.opened.items + p.spare ≤ vec_capacity p.owner) };
+    ghost invariant = { λ p. IsKept (record { cells = p.cells.items; opened = p.opened.items; owner = p.owner.items; at = p.at.items; threads = p.threads.items; spare = p.spare }) × (length p.at.items < 2 ^ 32) × (length p.opened.items + p.spare < 2 ^ 32) × (length p.opened.items + p.spare ≤ vec_capacity p.opened) × (length p.opened.items + p.spare ≤ vec_capacity p.owner) };
 }
 
 impl Proto {
+    /// Cells that are empty, and an accessor for each of these threads, which hasn't begun.
+    pub fn new(alloc: Global, cells: u32, threads: &[u32]) -> Result<Proto, NoMemory>
+        requires { length threads.now < 2 ^ 32 }
+        ensures { IfOk result (λ p. IsNew cells threads.now p) }
+    {
+        Ok(Proto {
+            cells: vec![in alloc; State::Empty; cells as usize]?,
+            opened: Vec::new(alloc),
+            owner: Vec::new(alloc),
+            at: vec![in alloc; Pos::Idle; threads.len()]?,
+            threads: threads.to_vec(alloc)?,
+            spare: 0,
+        })
+    }
+
+    /// Makes room for so many latches, or changes nothing.
+    pub fn reserve(&mut self, latches: u32) -> Result<(), NoMemory>
+        ensures ok { OnOk result ((latches ≤ self.new.spare) × (self.new ≡ record self.old { spare = self.new.spare })) }
+        ensures err { OnErr result (self.new ≡ self.old) }
+    {
+        if latches as usize > u32::MAX as usize - self.opened.len() {
+            return Err(NoMemory);
+        }
+        self.opened.reserve(latches as usize)?;
+        self.owner.reserve(latches as usize)?;
+        if self.spare < latches {
+            self.spare = latches;
+        }
+        Ok(())
+    }
+
+    /// The first accessor that is inside a cell; their number where there is none.
+    #[tactic(auto, using(crate::proofs::Finding::goes_on, crate::proofs::Finding::stops, crate::proofs::Finding::ends))]
+    pub(crate) fn runner(&self, cell: u32) -> u32
+        ensures { result ≡ first_inside cell self.now.at }
+    {
+        let mut who = 0;
+        while (who as usize) < self.at.len() && !self.at[who as usize].is_inside(cell) {
+            who += 1;
+        }
+        who
+    }
+
+    /// How many cells there are.
+    pub fn cells(&self) -> usize
+        ensures { result ≡ length self.now.cells }
+    {
+        self.cells.len()
+    }
+
+    /// How many accessors there are.
+    pub fn accessors(&self) -> usize
+        ensures { result ≡ length self.now.at }
+    {
+        self.at.len()
+    }
+
     /// How many latches may still be made.
     pub fn spare(&self) -> u32
         ensures { result ≡ self.now.spare }

@@ -200,7 +200,12 @@ impl Proto {
     {
         match self.cell(cell) {
             State::Waiting(other) if other == latch => {
-                self.write(who, cell, content_of(ended_with), Pos::Open(latch, ended_with));
+                self.write(
+                    who,
+                    cell,
+                    content_of(ended_with),
+                    Pos::Open(latch, ended_with),
+                );
                 Stepped::Moved
             }
             _ => Stepped::Wrong,

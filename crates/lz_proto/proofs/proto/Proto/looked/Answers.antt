@@ -1,9 +1,5 @@
-use Rattle.std.proofs.Common.{◌≡◌, ◌≢◌, ℕ, sym, ap, refl, ◌∙◌}
-use Rattle.lz_proto.specs.declared.state.State.TheVariants.{Evaluating, Waiting}
-use Rattle.lz_proto.specs.declared.pos.Pos.TheVariants as pos
-use Rattle.lz_proto.proofs.Writing.{claims_keep, stores_keep, swaps_keep}
-use Rattle.lz_proto.proofs.Latches.{marks_keep, places_keep, opens_keep}
-use Rattle.lz_proto.proofs.Acting.{ended_keeps, relied, goes_on, left_latched, look_keeps, waits_for_made}
+use Rattle.std.proofs.Common.{sym, ◌∙◌}
+use Rattle.lz_proto.proofs.Acting.{waits_for_made}
 use Rattle.lz_proto.proofs.proto.Proto.looked.Goals as goal
 
 pub owner-requires : goal.owner-requires

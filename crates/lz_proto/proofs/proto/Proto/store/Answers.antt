@@ -1,9 +1,7 @@
-use Rattle.std.proofs.Common.{◌≡◌, ◌≢◌, ℕ, sym, ap, refl, ◌∙◌}
-use Rattle.lz_proto.specs.declared.state.State.TheVariants.{Evaluating, Waiting}
+use Rattle.std.proofs.Common.{sym, refl, ◌∙◌}
 use Rattle.lz_proto.specs.declared.pos.Pos.TheVariants as pos
-use Rattle.lz_proto.proofs.Writing.{claims_keep, stores_keep, swaps_keep}
-use Rattle.lz_proto.proofs.Latches.{marks_keep, places_keep, opens_keep}
-use Rattle.lz_proto.proofs.Acting.{evaluating_same, ended_keeps, relied, goes_on, left_latched, read_keeps}
+use Rattle.lz_proto.proofs.Writing.{stores_keep}
+use Rattle.lz_proto.proofs.Acting.{evaluating_same, ended_keeps, relied, goes_on, left_latched}
 use Rattle.lz_proto.proofs.proto.Proto.store.Goals as goal
 use Rattle.lz_proto.proofs.proto.Proto.store.Goals.{in_default-via-in-Evaluating+else-thread, in_default-via-in_default}
 

@@ -1,9 +1,8 @@
-use Rattle.std.proofs.Common.{◌≡◌, ◌≢◌, ℕ, sym, ap, refl, ◌∙◌}
-use Rattle.lz_proto.specs.declared.state.State.TheVariants.{Evaluating, Waiting}
+use Rattle.std.proofs.Common.{sym, ap, ◌∙◌}
+use Rattle.lz_proto.specs.declared.state.State.TheVariants.{Waiting}
 use Rattle.lz_proto.specs.declared.pos.Pos.TheVariants as pos
-use Rattle.lz_proto.proofs.Writing.{claims_keep, stores_keep, swaps_keep}
-use Rattle.lz_proto.proofs.Latches.{marks_keep, places_keep, opens_keep}
-use Rattle.lz_proto.proofs.Acting.{ended_keeps, relied, goes_on, left_latched, read_keeps}
+use Rattle.lz_proto.proofs.Writing.{swaps_keep}
+use Rattle.lz_proto.proofs.Acting.{relied}
 use Rattle.lz_proto.proofs.proto.Proto.swap.Goals as goal
 
 pub write-requires-clause-kept : goal.write-requires-clause-kept
