@@ -1,0 +1,10 @@
+pub mod Lists
+pub mod Kept
+pub mod Writing
+pub mod Latches
+pub mod Acting
+pub mod Following
+pub mod Rules
+pub mod Waiters
+pub mod Finding
+pub mod New

@@ -1,0 +1,5 @@
+use Rattle.lz_proto.proofs.Latches.{marks_keep}
+use Rattle.lz_proto.proofs.proto.Proto.mark.Goals as goal
+
+pub make-requires-clause-kept : goal.make-requires-clause-kept
+make-requires-clause-kept c = (_, marks_keep c.args.self.now c.requires.kept.0 c.requires.kept.1 c.args.who c.requires.there c.args.cell c.args.thread c.requires.at)

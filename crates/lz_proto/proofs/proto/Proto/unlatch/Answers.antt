@@ -1,0 +1,7 @@
+use Rattle.lz_proto.proofs.Latches.{opens_keep}
+use Rattle.lz_proto.proofs.Acting.{ended_keeps}
+use Rattle.lz_proto.proofs.proto.Proto.unlatch.Goals as goal
+
+pub open-requires-clause-kept : goal.open-requires-clause-kept
+open-requires-clause-kept c =
+    rw c.end_of.ensures (_, opens_keep c.args.self.now c.requires.kept.0 c.requires.kept.1 c.args.who c.requires.there c.args.latch c.args.ended_with c.requires.at (λ cells n stage. ended_keeps c.args.ended_with cells n stage c.args.who))

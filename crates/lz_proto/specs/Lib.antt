@@ -1,0 +1,6 @@
+-- What a reader must believe, in this order.
+pub mod Protocol
+pub mod Steps
+pub mod Once
+pub mod Kept
+pub mod Promises
