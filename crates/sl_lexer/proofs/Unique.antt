@@ -141,7 +141,7 @@ one_fault text k l s t f g =
 
 -- ---- and each text is read
 
-order : (m n : ℕ) → (m < n) ⊎ (n ≤ m)
+pub order : (m n : ℕ) → (m < n) ⊎ (n ≤ m)
 order m zero = inr (omega arith)
 order zero (suc n) = inl (omega arith)
 order (suc m) (suc n) = up (order m n)

@@ -1,4 +1,5 @@
 pub mod Lex
+pub mod Forms
 pub mod Piece
 pub mod Class
 pub mod TextLiteral

@@ -25,7 +25,7 @@ mod words;
 use characters::behind;
 pub use fault::{LexFault, LexKind};
 use front::{Front, no_memory, take};
-pub use laws::{lexing, nesting};
+pub use laws::{forms, lexing, nesting};
 use reading::read;
 use sl_ast::Token;
 use sl_text::Text;

@@ -59,6 +59,22 @@ fn texts(rt: HostRuntime) -> Result<(), Fail> {
         ("//*\na", " id a 4-5"),
         // Words.
         ("abstract yield", " key 0 0-8 key 39 9-14"),
+        (
+            "abstract case catch class def do else extends false final",
+            " key 0 0-8 key 1 9-13 key 2 14-19 key 3 20-25 key 4 26-29 key 5 30-32 key 6 33-37 key 7 38-45 key 8 46-51 key 9 52-57",
+        ),
+        (
+            "finally for forSome if implicit import lazy macro match new",
+            " key 10 0-7 key 11 8-11 key 12 12-19 key 13 20-22 key 14 23-31 key 15 32-38 key 16 39-43 key 17 44-49 key 18 50-55 key 19 56-59",
+        ),
+        (
+            "null object override package private protected return sealed",
+            " key 20 0-4 key 21 5-11 key 22 12-20 key 23 21-28 key 24 29-36 key 25 37-46 key 26 47-53 key 27 54-60",
+        ),
+        (
+            "super this throw trait try true type val var while with yield",
+            " key 28 0-5 key 29 6-10 key 30 11-16 key 31 17-22 key 32 23-26 key 33 27-31 key 34 32-36 key 35 37-40 key 36 41-44 key 37 45-50 key 38 51-55 key 39 56-61",
+        ),
         ("forSome for forx", " key 12 0-7 key 11 8-11 id forx 12-16"),
         ("_ __ _a a_1", " mark 0 0-1 id __ 2-4 id _a 5-7 id a_1 8-11"),
         ("λé", " id λé 0-2"),
@@ -148,10 +164,13 @@ fn limits(rt: HostRuntime) -> Result<(), Fail> {
     for (front, text, count, back, want) in [
         ("", "a", 81, "", "LongText 0-81"),
         ("_", "a", 80, "", "LongText 0-81"),
+        ("x + ", "é", 81, " y", "LongText 4-85"),
         ("\"", "a", 10_001, "\"", "LongText 0-10003"),
         ("\"", "\\n", 10_001, "\"", "LongText 0-20004"),
         ("\"", "a", 10_001, "", "OpenText 0-10002"),
         ("", ";", 262_145, "", "TooMany 262144-262145"),
+        ("", "1;", 131_072, " object", "TooMany 262145-262151"),
+        ("", ";", 262_144, "/* */\n\"ab\"", "TooMany 262150-262154"),
         ("", ";", 262_144, "$", "Dollar 262144-262145"),
     ] {
         let mut source = String::new(alloc);

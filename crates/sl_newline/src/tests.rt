@@ -97,6 +97,13 @@ fn newlines(rt: HostRuntime) -> Result<(), Fail> {
         ("C(a>\na)\na>a\na", "C(a>a)a>ana"),
         ("C(>)\na", "C(>)a"),
         ("a\n}", "a}"),
+        ("a\u{c}\na", "ana"),
+        ("a\n\u{c}\r\na", "anna"),
+        ("a\n\u{a0}\na", "ana"),
+        ("a\n\n(\na\n\na)", "ann(aa)"),
+        ("{\na\n}\n\n{\na}", "{a}nn{a}"),
+        ("]\na", "]na"),
+        ("a\n;\na", "a;a"),
         ("}\na", "}na"),
     ] {
         let found = separated(rt.alloc(), source)?;

@@ -1,4 +1,5 @@
 use Rattle.sl_lexer.proofs.Unique.{comes_to, no_both, one_lex, one_fault}
+use Rattle.sl_lexer.proofs.Places.{lex_in, fault_in}
 use Rattle.sl_lexer.proofs.laws.lexing.Goals as goal
 
 pub returns-clause-some : goal.returns-clause-some
@@ -12,3 +13,9 @@ returns-clause-tokens c = one_lex
 
 pub returns-clause-fault : goal.returns-clause-fault
 returns-clause-fault c = one_fault
+
+pub returns-clause-within : goal.returns-clause-within
+returns-clause-within c = lex_in
+
+pub returns-clause-begins : goal.returns-clause-begins
+returns-clause-begins c = fault_in

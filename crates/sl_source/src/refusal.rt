@@ -1,0 +1,32 @@
+//! Why a source file is refused.
+
+use sl_base::NoMemory;
+use sl_lexer::LexKind;
+use sl_text::Spot;
+
+/// The first fault of a source file, and where it stands.
+#[derive(Clone, Copy, Debug, PartialEq, Eq)]
+pub enum Refusal {
+    /// The file isn't UTF-8, and the first ill-formed sequence begins at this byte.
+    NotUtf8 { at: u32 },
+    /// A lexical fault begins there (SLS 1).
+    Lex { kind: LexKind, spot: Spot },
+}
+
+/// Why bytes have no tokens.
+#[derive(Clone, Copy, Debug, PartialEq, Eq)]
+pub enum SourceFault {
+    Refused(Refusal),
+    Memory,
+}
+
+impl From<NoMemory> for SourceFault {
+    ghost use Rattle.std.specs.Prelude.{◌≡◌};
+    ghost use Rattle.sl_source.specs.declared.refusal.SourceFault.TheVariants.{Memory};
+
+    ghost from_gives = { λ _ e. e ≡ Memory };
+
+    fn from(_error: NoMemory) -> SourceFault {
+        SourceFault::Memory
+    }
+}
