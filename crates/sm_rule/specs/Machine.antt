@@ -1,5 +1,5 @@
 -- The threads of a program as a system over one heap: whom a thread waits for, and where.
-use Rattle.std.specs.Prelude.{ℕ, zero, suc, ◌+◌, ◌-◌, ◌==◌, ◌&&◌, ◌||◌, Bool, true, false, if◌then◌else◌, nat_eq, is_some, List, [], ◌∷◌, ◌++◌, take, length, codes, Option, Some, None, option_map, slice_get}
+use Rattle.std.specs.Prelude.{ℕ, zero, suc, ◌+◌, ◌-◌, ◌==◌, ◌&&◌, ◌||◌, not, Bool, true, false, if◌then◌else◌, nat_eq, is_some, List, [], ◌∷◌, ◌++◌, take, length, codes, Option, Some, None, option_map, slice_get}
 use Rattle.std.specs.Option.{option_and_then, option_or, unwrap_or}
 use Rattle.std.specs.Str.{bytes_eq}
 use Rattle.runs.specs.System.{Next, Goes, Waits, Ended, Stuck, System}
@@ -90,8 +90,9 @@ place_of p h th (Some (act.ReadModule class)) = unwrap_or (class_name p class) [
 place_of p h th (Some (act.Await v)) = top_name p th.contexts
 place_of p h th other = []
 
--- ---- whom it waits for: who runs the initialiser of the cell or the initialisation of the object; and at a latch, who
--- runs the method `x$init` of the class and object whose method `x` awaits it
+-- ---- whom it waits for, always another thread: who runs the initialiser of the cell or the initialisation of the object;
+-- and at a latch, who runs the method `x$init` of the class and object whose method `x` awaits it, and awaits none there
+-- itself
 
 abbrev pub is_run_by : ℕ → Option Once → Bool
 is_run_by u (Some (once.Running t)) = t == u
@@ -123,14 +124,28 @@ abbrev pub some_initialises : Program → Context → List Context → Bool
 some_initialises p c [] = false
 some_initialises p c (d ∷ ds) = initialises p c d || some_initialises p c ds
 
-abbrev pub awaits_of : Program → List Context → List Context → Bool
-awaits_of p [] ds = false
-awaits_of p (c ∷ cs) ds = some_initialises p c ds
+abbrev pub same_part : Part → Part → Bool
+same_part (part.Method m) (part.Method n) = nat_eq m n
+same_part (part.Init m) (part.Init n) = nat_eq m n
+same_part part.Constructor part.Constructor = true
+same_part _ _ = false
+
+-- the same part of the same class and object
+abbrev pub same_place : Context → Context → Bool
+same_place c d = (d.class == c.class) && same_part d.part c.part && is_same_object d.this c.this
+
+abbrev pub is_await : Option Act → Bool
+is_await (Some (act.Await v)) = true
+is_await other = false
+
+abbrev pub awaits_of : Program → List Context → List Context → Option Act → Bool
+awaits_of p (c ∷ cs) (d ∷ ds) a = some_initialises p c (d ∷ ds) && not (is_await a && same_place c d)
+awaits_of p _ _ a = false
 
 abbrev pub blocked_by : Program → Heap → Thread → ℕ → Thread → Option Act → Bool
 blocked_by p h x u y (Some (act.ReadCell (value.Ref r) class cell)) = cell_run_by p u class cell (slice_get h.objects r)
 blocked_by p h x u y (Some (act.ReadModule class)) = module_run_by u (slice_get h.modules class)
-blocked_by p h x u y (Some (act.Await v)) = awaits_of p x.contexts y.contexts
+blocked_by p h x u y (Some (act.Await v)) = awaits_of p x.contexts y.contexts (next_act p y)
 blocked_by p h x u y other = false
 
 -- ---- who frees it: a thread in the same method of the same object that has the latch in a local
@@ -143,14 +158,8 @@ abbrev pub has_latch : ℕ → List (Option Value) → Bool
 has_latch at [] = false
 has_latch at (v ∷ locals) = is_latch at v || has_latch at locals
 
-abbrev pub same_part : Part → Part → Bool
-same_part (part.Method m) (part.Method n) = nat_eq m n
-same_part (part.Init m) (part.Init n) = nat_eq m n
-same_part part.Constructor part.Constructor = true
-same_part _ _ = false
-
 abbrev pub frees_at : ℕ → List Context → List Context → Bool
-frees_at at (c ∷ cs) (d ∷ ds) = (d.class == c.class) && same_part d.part c.part && is_same_object d.this c.this && has_latch at d.locals
+frees_at at (c ∷ cs) (d ∷ ds) = same_place c d && has_latch at d.locals
 frees_at at _ _ = false
 
 abbrev pub is_closed : Option Bool → Bool

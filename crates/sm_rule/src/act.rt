@@ -40,8 +40,9 @@ pub enum Act {
         class: u32,
         of: Value,
     },
-    // Calls, whose object is the first argument but where it is told: of the method that the object's class has of this one's name; of the one that `super` means; of this very
-    // one; of a constructor, and of that of the superclass (SLS 5.1, 6.5, 6.6).
+    // Calls, whose object is the first argument but where it is told: of the method that the object's class has of this
+    // one's name; of the one that `super` means; of this very one; of a constructor, and of that of the superclass (SLS
+    // 5.1, 6.5, 6.6).
     Call {
         class: u32,
         method: u32,
