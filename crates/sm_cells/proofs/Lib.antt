@@ -1,0 +1,5 @@
+mod Slices
+mod Editing
+mod Performing
+mod Moving
+pub mod Kept

@@ -1,0 +1,4 @@
+pub mod Fitting
+pub mod Carrying
+pub mod Reached
+pub mod InClasses
