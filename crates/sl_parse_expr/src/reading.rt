@@ -2,6 +2,7 @@
 
 ghost use Rattle.std.specs.Prelude.{◌≡◌};
 ghost use Rattle.sl_parse_expr.specs.Levels as spec;
+ghost use Rattle.sl_parse_expr.specs.PatternRules.{pattern};
 ghost use Rattle.sl_parse_expr.specs.Reading.{Reads};
 ghost use Rattle.sl_parse_expr.specs.Rules as rules;
 ghost use Rattle.sl_parse_expr.specs.Starts as starts;
@@ -10,7 +11,7 @@ use crate::cursor::Cursor;
 use crate::grammar::Grammar;
 use crate::starts::begins_expr;
 use crate::stopped::Stopped;
-use sl_ast::Expr;
+use sl_ast::{Expr, ParArgs};
 use std::alloc::Global;
 
 // No expression may nest here.
@@ -38,4 +39,16 @@ pub fn read_expr(alloc: Global, tokens: &mut Cursor<'_>, depth: usize) -> Result
         expr: read_expr,
     }
     .any(tokens)
+}
+
+/// Arguments in parentheses, in which expressions and patterns nest at most `depth` deep.
+pub fn read_args(alloc: Global, tokens: &mut Cursor<'_>, depth: usize) -> Result<ParArgs, Stopped>
+    ensures { Reads (rules.par_args (spec.expr depth) (pattern depth) tokens.old) result tokens.new }
+{
+    Grammar {
+        alloc,
+        depth,
+        expr: read_expr,
+    }
+    .par_args(tokens)
 }
