@@ -1,0 +1,18 @@
+//! Source files from tokens (SLS 4, 5, 9).
+#![tactic(auto)]
+
+mod class_params;
+mod classes;
+mod definitions;
+mod fault;
+mod members;
+mod modifiers;
+mod params;
+mod parsing;
+mod spans;
+mod templates;
+mod values;
+mod words;
+
+pub use fault::{ParseFault, ParseKind};
+pub use parsing::parse;
