@@ -7,12 +7,11 @@ use Rattle.sl_ast.specs.declared.token.Token.{Token}
 use Rattle.sl_parse_expr.specs.declared.ahead.Ahead.{Ahead}
 use Rattle.sl_parse_expr.specs.declared.ahead.Ahead.TheVariants as see
 use Rattle.sl_parse_expr.specs.declared.cursor.Waiting.{Waiting}
-use Rattle.sl_parse_expr.specs.Ahead.{sort}
-use Rattle.sl_parse_expr.specs.Reading.{Stop, State, Outcome, Reader, and_then, ◌>>=◌, ◌>>◌, pure, hold, look, absorb, settle, waits, ahead, nothing, one, one_by, given, word, expect, choose_by, by_ahead, choose, if_clean, option, fold, clean}
+use Rattle.sl_parse_expr.specs.Reading.{Stop, State, Outcome, Reader, ◌>>=◌, ◌>>◌, pure, hold, look, absorb, settle, waits, ahead, nothing, one, given, word, expect, choose_by, by_ahead, choose, if_clean, option, fold, clean}
 use Rattle.sl_parse_expr.specs.Rules.{added}
 use Rattle.sl_parse_expr.specs.Phrases.{IsOne, IsWord, Pending, none_held, semi_held, line_held, lines_held}
 use Rattle.sl_parse_expr.specs.Phrases as phrase
-use Rattle.sl_parse_expr.proofs.Theory.{Held, ok_of, err_of, stop, decide, bind_ok, ok_0, ok_1, ok_2, fold_goes, fold_stays, fold_fails}
+use Rattle.sl_parse_expr.proofs.Theory.{Held, ok_of, err_of, decide, bind_ok, ok_0, ok_1, ok_2, fold_goes, fold_stays, fold_fails}
 use Rattle.sl_parse_expr.proofs.Choices.{both_false}
 use Rattle.sl_parse_expr.proofs.Loops.{Eats}
 

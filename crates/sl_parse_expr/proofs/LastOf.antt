@@ -5,7 +5,7 @@ use Rattle.std.proofs.lemmas.List.{length-map}
 use Rattle.std.proofs.lemmas.Option.{slice_get-map}
 use Rattle.sl_ast.specs.declared.infix.Infix.{Infix, out-Infix}
 use Rattle.sl_ast.specs.declared.infix.Operation.{Operation, out-Operation}
-use Rattle.sl_ast.specs.declared.args.Args.TheFolds.{fold-Prefix, fold-Operation, fold_out-Infix, fold_out-Operation}
+use Rattle.sl_ast.specs.declared.args.Args.TheFolds.{fold-Operation, fold_out-Infix, fold_out-Operation}
 use Rattle.sl_parse_expr.specs.LastNew.{bool_or, last_or, args_step, stat_step, expr_step, head_step, suffix_step, par_args_step, block_step, case_step, cases_step, infix_step, operation_step, prefix_step, simple_step, infix_ends_in_new, prefix_ends_in_new}
 
 last_of_map : {A : Type 0} (f : A → Bool) (b : Bool) (xs : List A) → last_or b (map f xs) ≡ bool_or b (option_map f (slice_get xs (length xs - 1)))

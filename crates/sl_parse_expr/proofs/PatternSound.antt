@@ -1,18 +1,17 @@
 -- What is read as a pattern is one by the grammar. A rule's proof repeats its definition.
-use Rattle.std.proofs.Common.{◌≡◌, ℕ, zero, suc, false, List, [], ◌∷◌, ◌++◌, refl}
+use Rattle.std.proofs.Common.{ℕ, zero, suc, List, [], ◌∷◌, ◌++◌, refl}
 use Rattle.std.specs.Prelude.{◌&&◌}
 use Rattle.sl_text.specs.declared.span.Span.{Span}
 use Rattle.sl_ast.specs.declared.token.Token.{Token}
 use Rattle.sl_ast.specs.declared.ident.Ident.{Ident}
 use Rattle.sl_ast.specs.declared.type_tree.TypeTree.{TypeTree}
-use Rattle.sl_ast.specs.declared.pattern.Pattern.{Pattern}
 use Rattle.sl_ast.specs.declared.pattern.Pat.{Pat}
 use Rattle.sl_ast.specs.declared.pattern.Wildcard.{Wildcard}
 use Rattle.sl_ast.specs.declared.pattern.Wildcard.TheVariants as wildcard
 use Rattle.sl_parse_expr.specs.declared.ahead.Ahead.TheVariants as see
 use Rattle.sl_parse_expr.specs.Ahead.{same}
 use Rattle.sl_parse_expr.specs.Tokens.{ident_of, literal_of}
-use Rattle.sl_parse_expr.specs.Trees.{applied_type, named_type}
+use Rattle.sl_parse_expr.specs.Trees.{named_type}
 use Rattle.sl_parse_expr.specs.PatternTrees.{typed_tree, any_tree, name_tree, simple_as_pat, pattern_tree}
 use Rattle.sl_parse_expr.specs.Reading.{ahead, nothing}
 use Rattle.sl_parse_expr.specs.Rules.{name, literal, applied, type_tree, too_deep}
@@ -25,7 +24,7 @@ use Rattle.sl_parse_expr.proofs.Theory.{Held, stop}
 use Rattle.sl_parse_expr.proofs.Level.{pattern_level}
 use Rattle.sl_parse_expr.proofs.PatternGood.{good_next_part, good_next_alternative}
 use Rattle.sl_parse_expr.proofs.Loops.{Eats, eats_of}
-use Rattle.sl_parse_expr.proofs.Gives.{Gives, Clean, Loose, stopped, weaker, looser, as_clean, as_loose, next, upon, map_clean, map_loose, single, marked, both, perhaps_clean, listing, IsNext, behind, one_behind}
+use Rattle.sl_parse_expr.proofs.Gives.{Gives, Clean, Loose, stopped, looser, as_clean, as_loose, next, upon, map_clean, map_loose, single, marked, both, perhaps_clean, listing, IsNext, behind, one_behind}
 
 -- ---- names, literals and types
 

@@ -4,14 +4,12 @@ use Rattle.std.specs.Prelude.{if◌then◌else◌, ◌&&◌, ◌||◌, Result, I
 use Rattle.std.proofs.lemmas.List.{append-nil}
 use Rattle.sl_text.specs.declared.span.Span.{Span}
 use Rattle.sl_ast.specs.declared.token.Token.{Token}
-use Rattle.sl_ast.specs.declared.ident.Ident.{Ident}
 use Rattle.sl_ast.specs.declared.expr.Expr.{Expr}
 use Rattle.sl_ast.specs.declared.infix.Infix.{Infix}
 use Rattle.sl_ast.specs.declared.infix.Operation.{Operation}
 use Rattle.sl_ast.specs.declared.infix.Prefix.{Prefix}
 use Rattle.sl_ast.specs.declared.simple.Suffix.{Suffix}
 use Rattle.sl_ast.specs.declared.block.Stat.{Stat}
-use Rattle.sl_ast.specs.declared.cases.Case.{Case}
 use Rattle.sl_parse_expr.specs.declared.ahead.Ahead.{Ahead}
 use Rattle.sl_parse_expr.specs.declared.ahead.Ahead.TheVariants as see
 use Rattle.sl_parse_expr.specs.declared.cursor.Waiting.{Waiting}
@@ -22,9 +20,8 @@ use Rattle.sl_parse_expr.specs.Ahead.{sort, same}
 use Rattle.sl_parse_expr.specs.Starts.{begins_stat, begins_binding, begins_sign, begins_expr, is_operator}
 use Rattle.sl_parse_expr.specs.LastNew.{stat_ends_in_new}
 use Rattle.sl_parse_expr.specs.Tokens.{operator_of, sign_of, binding_of, separator_of, separates}
-use Rattle.sl_parse_expr.specs.Spans.{join}
 use Rattle.sl_parse_expr.specs.Trees.{parens_tree, cases_tree, infix_tree, operation_tree, plain_expr, select, apply, apply_block}
-use Rattle.sl_parse_expr.specs.Reading.{State, Reads, Reader, ◌>>=◌, ◌>>◌, pure, stuck, word, expect, absorb, settle, hold, ahead, rest, nothing, waits, clean, option}
+use Rattle.sl_parse_expr.specs.Reading.{State, Reads, Reader, ◌>>◌, pure, stuck, word, expect, absorb, hold, ahead, rest, nothing, waits, clean}
 use Rattle.sl_parse_expr.specs.Rules.{operator, sign, binding, separator, at_line, one_more, lines, next_arg, more_args, some_args, no_args, par_args, typed, local, expr_as_stat, stat, apart, stat_item, block_item, stats, block, braces, at_item, add_item, no_brace, bare_line, behind_bare, behind_new, behind_item, literal_start, name_start, this_start, super_start, new_args, new_start, nothing_inside, expr_inside, parens_start, block_start, start, selection, call, block_call, behind_line, line_call, suffix, suffixes, first_chain, goes_chain, at_suffix, add_suffix, simple, signed, unsigned, prefix, line_operand, operand, operation, operations, infix_expr, guarded, case_reader, more_cases, cases, with_else, third, third_by, second, second_by, other, other_by, semi_from, line_from, condition, if_expr, while_expr, handler, finalizer, try_expr, throw_expr, at_behind, match_behind, assign_behind, behind_infix, plain, any, too_deep}
 use Rattle.sl_parse_expr.specs.PatternRules.{pattern}
 use Rattle.sl_parse_expr.specs.Levels.{expr}
@@ -37,7 +34,7 @@ use Rattle.sl_parse_expr.proofs.Theory.{Held, stop}
 use Rattle.sl_parse_expr.proofs.Level.{level, pattern_level}
 use Rattle.sl_parse_expr.proofs.Good.{newline, good_next_arg, good_block_item, item_none, good_suffix, suffix_none, good_operation, good_case}
 use Rattle.sl_parse_expr.proofs.Loops.{Eats, eats_of}
-use Rattle.sl_parse_expr.proofs.Gives.{Gives, Clean, Loose, give, stopped, same_as, weaker, looser, as_clean, as_loose, next, upon, map_clean, map_loose, single, marked, either, both, branch_by, holding, looked, absorbed, settled, perhaps, perhaps_clean, loop, listing, IsNext, behind, one_behind}
+use Rattle.sl_parse_expr.proofs.Gives.{Gives, Clean, Loose, give, stopped, same_as, weaker, looser, as_loose, next, upon, map_clean, map_loose, single, marked, either, both, branch_by, holding, looked, absorbed, settled, perhaps, perhaps_clean, loop, listing, IsNext, behind, one_behind}
 use Rattle.sl_parse_expr.proofs.PatternSound.{name_is, literal_is, type_is, pattern_is}
 
 -- ---- single tokens and line ends

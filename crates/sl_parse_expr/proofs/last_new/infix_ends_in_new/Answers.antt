@@ -1,4 +1,4 @@
-use Rattle.std.proofs.Common.{rules, arith, ap, sym, ◌∙◌}
+use Rattle.std.proofs.Common.{rules, arith}
 use Rattle.std.proofs.lemmas.Grind.{common_steps}
 use Rattle.sl_parse_expr.proofs.LastOf.{some_last, no_last}
 use Rattle.sl_parse_expr.proofs.last_new.infix_ends_in_new.Goals as goal
