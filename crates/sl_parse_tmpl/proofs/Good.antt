@@ -4,7 +4,6 @@ use Rattle.std.proofs.Common.{◌≡◌, ℕ, Bool, true, false, List, [], ◌�
 use Rattle.std.specs.Prelude.{if◌then◌else◌}
 use Rattle.sl_text.specs.declared.span.Span.{Span}
 use Rattle.sl_ast.specs.declared.token.Token.{Token}
-use Rattle.sl_ast.specs.declared.ident.Ident.{Ident}
 use Rattle.sl_ast.specs.declared.definition.Param.{Param}
 use Rattle.sl_ast.specs.declared.template.Member.{Member}
 use Rattle.sl_ast.specs.declared.template.MemberModifier.TheVariants as words
@@ -18,14 +17,14 @@ use Rattle.sl_parse_expr.specs.declared.ahead.Ahead.TheVariants as see
 use Rattle.sl_parse_expr.specs.Ahead.{sort, same}
 use Rattle.sl_parse_expr.specs.Starts.{begins_binding}
 use Rattle.sl_parse_expr.specs.Tokens.{separates}
-use Rattle.sl_parse_expr.specs.Reading.{Reader, ◌>>◌, pure, hold, absorb, if_clean, nothing}
+use Rattle.sl_parse_expr.specs.Reading.{Reader, pure, hold, absorb, if_clean, nothing}
 use Rattle.sl_parse_expr.specs.Rules.{added, at_comma, at_item, add_item}
 use Rattle.sl_parse_expr.specs.Levels.{expr}
 use Rattle.sl_parse_expr.specs.PatternRules.{pattern}
 use Rattle.sl_parse_expr.proofs.Theory.{Good, At, Completes, always, good_one, good_option, bind, map, at_hold, at_left}
 use Rattle.sl_parse_expr.proofs.Choices.{good_absorb, good_loop, both_false}
 use Rattle.sl_parse_expr.proofs.Shorter.{tk, last, pick, else_pick, perhaps, fewer}
-use Rattle.sl_parse_expr.proofs.Words.{nowhere, key, mark, t_name, t_line, lit, open_paren, close_paren, open_brace, close_brace, comma, semi}
+use Rattle.sl_parse_expr.proofs.Words.{nowhere, key, mark, t_name, lit, open_paren, close_paren, open_brace, close_brace, comma, semi}
 use Rattle.sl_parse_expr.proofs.Ends.{closers, brace, no_bracket, at_closers, at_brace}
 use Rattle.sl_parse_expr.proofs.Good.{good_behind_item, good_name, good_binding, good_separator, good_type, good_par_args}
 use Rattle.sl_parse_expr.proofs.Level.{level, pattern_level}
