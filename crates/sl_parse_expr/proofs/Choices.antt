@@ -4,7 +4,8 @@ use Rattle.std.specs.Prelude.{◌&&◌}
 use Rattle.sl_ast.specs.declared.token.Token.{Token}
 use Rattle.sl_parse_expr.specs.declared.ahead.Ahead.{Ahead}
 use Rattle.sl_parse_expr.specs.declared.ahead.Ahead.TheVariants as see
-use Rattle.sl_parse_expr.specs.Reading.{Stop, Reader, pure, head, seen, ahead, nothing, choose_by, by_ahead, choose, if_clean, option, absorb, fold, clean}
+use Rattle.sl_parse_expr.specs.declared.cursor.Waiting.TheVariants as waiting
+use Rattle.sl_parse_expr.specs.Reading.{Stop, Reader, pure, head, seen, ahead, nothing, choose_by, by_ahead, choose, if_clean, option, absorb, settle, fold, clean}
 use Rattle.sl_parse_expr.proofs.Theory.{Held, pends, ok_of, err_of, ok_0, ok_1, ok_2, decide, Completes, Takes, Stops, Good, needs, no_less, head_same, good_fold}
 
 keeps_head : (front ts r r' : List Token) → ts ≡ front ++ r → length r < length ts → head ts ≡ head (front ++ r')
@@ -150,6 +151,21 @@ good_absorb ends n = record {
   };
   fails = λ d ts s e. absurd cc;
   can = λ m l follow h. (true, refl);
+}
+
+pub good_settle : (ends : Ahead → Bool) (n : ℕ) → Good ends [] n (λ _. settle)
+unfolding settle
+good_settle ends n = record {
+  takes = λ d ts y d' r e. record {
+    front = [];
+    is = ok_2 e;
+    again = λ m l r' _. ap (λ z. ok_of z [] r') (ok_0 e) ∙ ap (λ (z : Held). ok_of y z r') (ok_1 e);
+    eats = λ h. absurd cc;
+    clean = λ h h'. let i : pends [] ≡ pends d' = ap pends (ok_1 e) in absurd cc;
+    resumes = λ h l. absurd (no_less ts r (ok_2 e) l);
+  };
+  fails = λ d ts s e. absurd cc;
+  can = λ m l follow h. (waiting.Nothing, refl);
 }
 
 -- a loop that goes on only where nothing is held

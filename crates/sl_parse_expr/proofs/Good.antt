@@ -21,13 +21,14 @@ use Rattle.sl_parse_expr.specs.declared.cursor.Waiting.TheVariants as waiting
 use Rattle.sl_parse_expr.specs.declared.chain.Chain.{Chain}
 use Rattle.sl_parse_expr.specs.declared.chain.Chain.TheVariants as chain
 use Rattle.sl_parse_expr.specs.Ahead.{sort, same}
+use Rattle.sl_parse_expr.specs.LastNew.{stat_ends_in_new}
 use Rattle.sl_parse_expr.specs.Starts.{begins_sign, begins_binding, begins_stat}
 use Rattle.sl_parse_expr.specs.Tokens.{ident_of, operator_of, sign_of, literal_of, binding_of, separator_of, separates}
 use Rattle.sl_parse_expr.specs.Trees.{par_args_tree, new_tree, super_tree, simple_tree, prefix_tree, operation_tree, infix_tree, if_tree, while_tree, try_tree, throw_tree, match_tree, assign_tree, local_tree, case_tree, cases_tree, block_tree, parens_tree, block_head, name_head, literal_head, this_head, select, apply, apply_block, applied_type, named_type, plain_expr, expr_stat}
 use Rattle.sl_parse_expr.specs.Reading.{Reader, ◌>>◌, pure, stuck, expect, hold, absorb, option, waits}
-use Rattle.sl_parse_expr.specs.Rules.{added, name, operator, sign, literal, binding, separator, applied, type_tree, at_line, one_more, lines, at_comma, at_operator, at_case, first_chain, goes_chain, at_suffix, add_suffix, at_item, add_item, semi_from, line_from, at_behind, next_arg, more_args, some_args, no_args, par_args, typed, local, expr_as_stat, stat, apart, stat_item, block_item, stats, block, braces, literal_start, name_start, this_start, super_start, new_args, new_start, nothing_inside, expr_inside, parens_start, block_start, start, selection, call, block_call, behind_line, line_call, suffix, suffixes, simple, signed, unsigned, prefix, line_operand, operand, operation, operations, infix_expr, guarded, case_reader, more_cases, cases, with_else, third, third_by, second, second_by, other, other_by, condition, if_expr, while_expr, handler, finalizer, try_expr, throw_expr, match_behind, assign_behind, behind_infix, plain, any}
-use Rattle.sl_parse_expr.proofs.Theory.{Good, At, Completes, always, good_one, good_look, bind, map, at_hold, at_left, at_stuck, good_option}
-use Rattle.sl_parse_expr.proofs.Choices.{good_absorb, good_loop, both_false}
+use Rattle.sl_parse_expr.specs.Rules.{added, name, operator, sign, literal, binding, separator, applied, type_tree, at_line, one_more, lines, at_comma, at_operator, at_case, first_chain, goes_chain, at_suffix, add_suffix, at_item, add_item, no_brace, bare_line, behind_bare, behind_new, behind_item, semi_from, line_from, at_behind, next_arg, more_args, some_args, no_args, par_args, typed, local, expr_as_stat, stat, apart, stat_item, block_item, stats, block, braces, literal_start, name_start, this_start, super_start, new_args, new_start, nothing_inside, expr_inside, parens_start, block_start, start, selection, call, block_call, behind_line, line_call, suffix, suffixes, simple, signed, unsigned, prefix, line_operand, operand, operation, operations, infix_expr, guarded, case_reader, more_cases, cases, with_else, third, third_by, second, second_by, other, other_by, condition, if_expr, while_expr, handler, finalizer, try_expr, throw_expr, match_behind, assign_behind, behind_infix, plain, any}
+use Rattle.sl_parse_expr.proofs.Theory.{Good, At, Completes, always, good_one, good_look, bind, map, give, at_hold, at_left, at_stuck, good_option}
+use Rattle.sl_parse_expr.proofs.Choices.{good_absorb, good_settle, good_loop, both_false}
 use Rattle.sl_parse_expr.proofs.Shorter.{tk, last, pick, else_pick, perhaps, fewer}
 use Rattle.sl_parse_expr.proofs.Words.{nowhere, key, mark, t_name, t_line, t_minus, lit, under, open_paren, close_paren, open_bracket, close_bracket, open_brace, close_brace, comma, semi, dot}
 use Rattle.sl_parse_expr.proofs.Ends.{closers, arrows, brace, starts, no_bracket, at_closers, at_brace, not_bracket, not_line}
@@ -75,6 +76,39 @@ good_lines n = good_loop at_line starts (t_line ∷ []) n (λ _. expect see.Newl
 pub newline : (n : ℕ) → Good always (t_line ∷ []) n (λ _. expect see.Newline)
 unfolding sort
 newline n = tk see.Newline t_line refl
+
+-- ---- behind an item
+
+abbrev unless_brace : Ahead → Reader (Unit {0})
+unless_brace o = if same see.OpenBrace o then stuck else pure tt
+
+abbrev stuck_or : Bool → Reader (Unit {0})
+stuck_or b = if b then stuck else pure tt
+
+brace_at : (n : ℕ) (d : List Token) (t : Token) (v : Bool) → same see.OpenBrace (sort t) ≡ v → At {A = Unit {0}} brace n (λ _. unless_brace (sort t)) d t ⊎ ((m : ℕ) → unless_brace (sort t) ≡ pure {A = Unit {0}} tt)
+brace_at n d t true i = inl (subst (λ (z : Bool). At {A = Unit {0}} brace n (λ _. stuck_or z) d t) (sym i) (at_stuck brace n d t))
+brace_at n d t false i = inr (λ m. ap stuck_or i)
+
+good_no_brace : (n : ℕ) → Good brace [] n (λ _. no_brace)
+unfolding no_brace
+good_no_brace n = good_option brace n (λ m o d. unless_brace o) (tt {0}) (λ d m. refl) (λ d m t h. at_brace (λ o. unless_brace o ≡ pure {A = Unit {0}} tt) refl (sort t) h) (λ d t. brace_at n d t (same see.OpenBrace (sort t)) refl)
+
+good_bare_line : (n : ℕ) → Good brace (t_line ∷ []) n (λ _. bare_line)
+unfolding bare_line
+good_bare_line n = bind (newline n) (λ _. map (λ _. false) (good_no_brace n)) (λ u h. refl)
+
+good_behind_bare : (n : ℕ) (w : Waiting) → Good brace [] n (λ _. behind_bare w)
+good_behind_bare n waiting.Nothing = perhaps (same see.Newline) true (good_bare_line n) refl (at_brace (λ o. same see.Newline o ≡ false) refl)
+good_behind_bare n waiting.Line = map (λ _. false) (good_no_brace n)
+good_behind_bare n waiting.More = give false
+
+good_behind_new : (n : ℕ) → Good brace [] n (λ _. behind_new)
+unfolding behind_new
+good_behind_new n = bind (good_settle always n) (λ w. good_behind_bare n w) (λ u h. refl)
+
+pub good_behind_item : (n : ℕ) (bare : Bool) → Good brace [] n (λ _. behind_item bare)
+good_behind_item n true = good_behind_new n
+good_behind_item n false = good_absorb brace n
 
 -- ---- the rules, over families of readers of the expressions and patterns inside
 
@@ -131,7 +165,7 @@ module _ (n : ℕ) (a : ℕ → Reader Expr) (b : ℕ → Reader Pattern) (good 
 
   good_stat_item : Good brace lit n (λ m. stat_item (a m) (b m))
   unfolding stat_item
-  good_stat_item = bind (fewer (at_brace (λ o. closers o ≡ true) refl) good_stat) (λ x. map (λ c. Some (x, c)) (good_absorb brace n)) (λ u h. h)
+  good_stat_item = bind (fewer (at_brace (λ o. closers o ≡ true) refl) good_stat) (λ x. map (λ c. Some (x, c)) (good_behind_item n (stat_ends_in_new x))) (λ u h. h)
 
   pub good_block_item : Good brace (semi ∷ []) n (λ m. block_item (a m) (b m))
   unfolding block_item sort

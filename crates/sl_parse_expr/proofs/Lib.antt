@@ -1,4 +1,5 @@
 pub mod Slices
+pub mod LastOf
 pub mod Theory
 pub mod Choices
 pub mod Words
@@ -13,3 +14,6 @@ pub mod Ground
 pub mod PatternBegun
 pub mod Level
 pub mod Loops
+pub mod Gives
+pub mod PatternSound
+pub mod Sound

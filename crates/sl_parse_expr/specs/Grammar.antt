@@ -32,6 +32,7 @@ use Rattle.sl_parse_expr.specs.Spans.{join}
 use Rattle.sl_parse_expr.specs.Trees.{par_args_tree, new_tree, super_tree, simple_tree, prefix_tree, operation_tree, infix_tree, if_tree, while_tree, try_tree, throw_tree, match_tree, assign_tree, local_tree, case_tree, cases_tree, block_tree, parens_tree, block_head, name_head, literal_head, this_head, select, apply, apply_block, applied_type, named_type, plain_expr, expr_stat}
 use Rattle.sl_parse_expr.specs.PatternTrees.{typed_tree, named_tree, any_tree, literal_tree, minus_tree, name_tree, constructor_tree, inside_tree, simple_as_pat, pattern_tree}
 use Rattle.sl_parse_expr.specs.Starts.{begins_stat, is_operator}
+use Rattle.sl_parse_expr.specs.LastNew.{stat_ends_in_new}
 use Rattle.sl_parse_expr.specs.Phrases.{IsOne, IsWord, IsMore, IsListed, IsOption, IsLines, IsLine, IsSemi, IsSeq}
 
 abbrev pub IsName : Ident → List Token → List Token → Type 0
@@ -108,7 +109,7 @@ module _ (E : Expr → List Token → List Token → Type 0) (Q : Pattern → Li
 
   -- Block ::= Seq(Stat)
   pub data IsBlock : Block → List Token → List Token → Type 0 where
-    block : {xs : List Stat} {a r : List Token} → IsSeq begins_stat IsStat true xs a r → IsBlock (block_tree xs) a r
+    block : {xs : List Stat} {a r : List Token} → IsSeq begins_stat stat_ends_in_new IsStat true xs a r → IsBlock (block_tree xs) a r
 
   -- '{' Block '}'
   pub data IsBraces : Block → Span → List Token → List Token → Type 0 where

@@ -5,6 +5,7 @@ pub mod Spans
 pub mod Trees
 pub mod PatternTrees
 pub mod Starts
+pub mod LastNew
 pub mod Phrases
 pub mod Grammar
 -- The rules as readers, which the contracts cite.

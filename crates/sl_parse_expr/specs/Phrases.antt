@@ -4,8 +4,8 @@ use Rattle.sl_text.specs.declared.span.Span.{Span}
 use Rattle.sl_ast.specs.declared.token.Token.{Token}
 use Rattle.sl_parse_expr.specs.declared.ahead.Ahead.{Ahead}
 use Rattle.sl_parse_expr.specs.declared.ahead.Ahead.TheVariants as see
-use Rattle.sl_parse_expr.specs.Ahead.{same}
-use Rattle.sl_parse_expr.specs.Reading.{ahead, word}
+use Rattle.sl_parse_expr.specs.Ahead.{sort, same}
+use Rattle.sl_parse_expr.specs.Reading.{ahead, rest, word}
 use Rattle.sl_parse_expr.specs.Tokens.{separates, separator_of}
 
 -- one token that has such a value
@@ -48,8 +48,20 @@ pub data IsSemi : List Token → List Token → Type 0 where
   one_line : {s : Span} {a r : List Token} → IsWord see.Newline s a r → IsSemi a r
   two_lines : {s t : Span} {a b r : List Token} → IsWord see.Newline s a b → IsWord see.Newline t b r → IsSemi a r
 
--- Seq(X): separators before, between (one or more) and behind; the Bool says whether one stands before, or nothing
-pub data IsSeq {A : Type 0} (begins : Ahead → Bool) (X : A → List Token → List Token → Type 0) : Bool → List A → List Token → List Token → Type 0 where
-  ended : {apart : Bool} {r : List Token} → (separates (ahead r) || (apart && begins (ahead r))) ≡ false → IsSeq begins X apart [] r r
-  separated : {apart : Bool} {xs : List A} {a b r : List Token} → IsOne separator_of tt a b → IsSeq begins X true xs b r → IsSeq begins X apart xs a r
-  item : {x : A} {xs : List A} {a b r : List Token} → X x a b → IsSeq begins X false xs b r → IsSeq begins X true (x ∷ xs) a r
+-- nl '{'
+abbrev pub body_follows : List Token → Bool
+body_follows r = same see.Newline (ahead r) && same see.OpenBrace (ahead (rest r))
+
+-- what may be held where a reader ends, since an optional part could stand behind it: nothing, `;`, or one or two line ends
+pub data Pending : List Token → Type 0 where
+  none_held : Pending []
+  semi_held : {t : Token} → sort t ≡ see.Semicolon → Pending (t ∷ [])
+  line_held : {t : Token} → sort t ≡ see.Newline → Pending (t ∷ [])
+  lines_held : {t u : Token} → sort t ≡ see.Newline → sort u ≡ see.Newline → Pending (t ∷ u ∷ [])
+
+-- Seq(X): separators before, between (one or more) and behind; the Bool says whether one stands before, or nothing. Behind
+-- an item that ends in a bare `new` no line end and brace may stand.
+pub data IsSeq {A : Type 0} (begins : Ahead → Bool) (bare : A → Bool) (X : A → List Token → List Token → Type 0) : Bool → List A → List Token → List Token → Type 0 where
+  ended : {apart : Bool} {r : List Token} → (separates (ahead r) || (apart && begins (ahead r))) ≡ false → IsSeq begins bare X apart [] r r
+  separated : {apart : Bool} {xs : List A} {a b r : List Token} → IsOne separator_of tt a b → IsSeq begins bare X true xs b r → IsSeq begins bare X apart xs a r
+  item : {x : A} {xs : List A} {a b r : List Token} → X x a b → (bare x && body_follows b) ≡ false → IsSeq begins bare X false xs b r → IsSeq begins bare X true (x ∷ xs) a r

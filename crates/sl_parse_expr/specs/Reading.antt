@@ -106,6 +106,10 @@ hold q = λ s. q (s.0 ++ first s.1, rest s.1)
 unfoldable pub absorb : Reader Bool
 absorb s = Ok (nothing s.0, ([], s.1))
 
+-- the same, and what it was, as far as a rule looks at it
+unfoldable pub settle : Reader Waiting
+settle s = Ok (waits s.0, ([], s.1))
+
 -- ---- choices by the token ahead
 
 abbrev pub look : {A : Type 0} → (Ahead → List Token → Reader A) → Reader A

@@ -30,9 +30,10 @@ use Rattle.sl_parse_expr.specs.declared.chain.Chain.TheVariants as chain
 use Rattle.sl_parse_expr.specs.Ahead.{same}
 use Rattle.sl_parse_expr.specs.Tokens.{ident_of, operator_of, sign_of, literal_of, binding_of, separator_of, separates}
 use Rattle.sl_parse_expr.specs.Starts.{begins_sign, is_operator, begins_binding, begins_stat}
-use Rattle.sl_parse_expr.specs.Reading.{Reader, ◌>>=◌, ◌>>◌, pure, stuck, one, expect, hold, absorb, look, choose, option, fold, clean, waits, nothing, ahead}
+use Rattle.sl_parse_expr.specs.Reading.{Reader, ◌>>=◌, ◌>>◌, pure, stuck, one, expect, hold, absorb, settle, look, choose, option, fold, clean, waits, nothing, ahead}
 use Rattle.sl_parse_expr.specs.Trees.{par_args_tree, new_tree, super_tree, simple_tree, prefix_tree, operation_tree, infix_tree, if_tree, while_tree, try_tree, throw_tree, match_tree, assign_tree, local_tree, case_tree, cases_tree, block_tree, parens_tree, block_head, name_head, literal_head, this_head, select, apply, apply_block, applied_type, named_type, plain_expr, expr_stat}
 use Rattle.sl_parse_expr.specs.Spans.{join}
+use Rattle.sl_parse_expr.specs.LastNew.{stat_ends_in_new}
 
 abbrev pub added : {A : Type 0} → List A → A → List A
 added xs x = xs ++ x ∷ []
@@ -116,6 +117,27 @@ add_item s (Some (x, true)) = (false, s.1 ++ x ∷ [])
 add_item s (Some (x, false)) = (true, s.1 ++ x ∷ [])
 add_item s None = (true, s.1)
 
+unfoldable pub no_brace : Reader (Unit {0})
+no_brace = choose (same see.OpenBrace) stuck (pure tt)
+
+-- a line end, behind which no brace may stand
+unfoldable pub bare_line : Reader Bool
+bare_line = expect see.Newline >> (no_brace >> pure false)
+
+abbrev pub behind_bare : Waiting → Reader Bool
+behind_bare waiting.Nothing = option (same see.Newline) bare_line true
+behind_bare waiting.Line = no_brace >> pure false
+behind_bare waiting.More = pure false
+
+-- behind a bare `new`: one line end with a brace behind it would begin a class body
+unfoldable pub behind_new : Reader Bool
+behind_new = settle >>= behind_bare
+
+-- what is held behind an item goes away, and whether nothing was; whether the item ends in a bare `new`
+abbrev pub behind_item : Bool → Reader Bool
+behind_item true = behind_new
+behind_item false = absorb
+
 abbrev pub semi_from : Waiting → Ahead → Bool
 semi_from waiting.Nothing o = same see.Semicolon o
 semi_from waiting.Line o = same see.Newline o
@@ -164,7 +186,7 @@ module _ (expr : Reader Expr) (pattern : Reader Pattern) where
   apart = separator >>= λ _. pure None
 
   unfoldable pub stat_item : Reader (Option (Stat × Bool))
-  stat_item = stat >>= λ x. absorb >>= λ c. pure (Some (x, c))
+  stat_item = stat >>= λ x. behind_item (stat_ends_in_new x) >>= λ c. pure (Some (x, c))
 
   unfoldable pub block_item : Reader (Option (Stat × Bool))
   block_item = choose separates apart stat_item

@@ -10,6 +10,8 @@ ghost use Rattle.sl_parse_expr.specs.Rules as spec;
 use crate::ahead::Ahead;
 use crate::cursor::Cursor;
 use crate::grammar::Grammar;
+use crate::items::behind_item;
+use crate::last_new::stat_ends_in_new;
 use crate::spans::{expr_span, join};
 use crate::starts::{begins_binding, goes_item, separates};
 use crate::stopped::Stopped;
@@ -84,13 +86,13 @@ impl<F: Fn(Global, &mut Cursor<'_>, usize) -> Result<Expr, Stopped>> Grammar<F> 
         Ok(None)
     }
 
-    #[tactic(auto, unfolding(crate::specs::Rules::stat_item, crate::specs::Reading::absorb))]
+    #[tactic(auto, unfolding(crate::specs::Rules::stat_item))]
     pub fn stat_item(&self, tokens: &mut Cursor<'_>) -> Result<Option<(Stat, bool)>, Stopped>
         requires { Nests expr self.now.depth (F.pre self.now.expr) (F.post self.now.expr) }
         ensures { Reads (spec.stat_item (expr self.now.depth) (pattern self.now.depth) tokens.old) result tokens.new }
     {
         let found = self.stat(tokens)?;
-        let clean = tokens.absorb();
+        let clean = behind_item(tokens, stat_ends_in_new(&found))?;
         Ok(Some((found, clean)))
     }
 

@@ -124,6 +124,16 @@ impl<'a> Cursor<'a> {
         }
     }
 
+    /// What is held goes away; what it was.
+    pub fn settle(&mut self) -> Waiting
+        ensures held { result ≡ waits self.old.0 }
+        ensures rest { self.new ≡ ([], self.old.1) }
+    {
+        let held = self.waits();
+        let _clean = self.absorb();
+        held
+    }
+
     /// What is held goes away.
     pub fn absorb(&mut self) -> bool
         ensures clean { result ≡ nothing self.old.0 }

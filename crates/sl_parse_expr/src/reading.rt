@@ -1,7 +1,10 @@
 //! Expressions to a depth.
 
-ghost use Rattle.std.specs.Prelude.{◌≡◌};
+ghost use Rattle.std.specs.Prelude.{◌≡◌, ◌++◌, IfOk};
+ghost use Rattle.sl_parse_expr.specs.Grammar.{IsExpr};
 ghost use Rattle.sl_parse_expr.specs.Levels as spec;
+ghost use Rattle.sl_parse_expr.specs.PatternRules.{pattern};
+ghost use Rattle.sl_parse_expr.specs.Phrases.{Pending};
 ghost use Rattle.sl_parse_expr.specs.Reading.{Reads};
 ghost use Rattle.sl_parse_expr.specs.Rules as rules;
 ghost use Rattle.sl_parse_expr.specs.Starts as starts;
@@ -10,7 +13,7 @@ use crate::cursor::Cursor;
 use crate::grammar::Grammar;
 use crate::starts::begins_expr;
 use crate::stopped::Stopped;
-use sl_ast::Expr;
+use sl_ast::{Expr, ParArgs};
 use std::alloc::Global;
 
 // No expression may nest here.
@@ -25,8 +28,8 @@ fn no_expr(tokens: &mut Cursor<'_>) -> Result<Expr, Stopped>
     }
 }
 
-/// An expression in which expressions and patterns nest at most `depth` deep.
-pub fn read_expr(alloc: Global, tokens: &mut Cursor<'_>, depth: usize) -> Result<Expr, Stopped>
+// The rule of expressions, over itself one level less deep.
+fn read_level(alloc: Global, tokens: &mut Cursor<'_>, depth: usize) -> Result<Expr, Stopped>
     ensures { Reads (spec.expr depth tokens.old) result tokens.new }
 {
     if depth == 0 {
@@ -35,7 +38,31 @@ pub fn read_expr(alloc: Global, tokens: &mut Cursor<'_>, depth: usize) -> Result
     Grammar {
         alloc,
         depth: depth - 1,
-        expr: read_expr,
+        expr: read_level,
     }
     .any(tokens)
+}
+
+/// Arguments in parentheses, in which expressions and patterns nest at most `depth` deep.
+pub fn read_args(alloc: Global, tokens: &mut Cursor<'_>, depth: usize) -> Result<ParArgs, Stopped>
+    ensures { Reads (rules.par_args (spec.expr depth) (pattern depth) tokens.old) result tokens.new }
+{
+    Grammar {
+        alloc,
+        depth,
+        expr: read_level,
+    }
+    .par_args(tokens)
+}
+
+/// An expression in which expressions and patterns nest at most `depth` deep (SLS 6). What is left begins behind it, with
+/// what is held: separators behind which an optional part would have been read. It is Unexpected where the rules go on with
+/// no such token, and TooDeep where they do one level deeper.
+#[tactic(auto, using(crate::proofs::Sound::is_derived, crate::proofs::Sound::is_held))]
+pub fn read_expr(alloc: Global, tokens: &mut Cursor<'_>, depth: usize) -> Result<Expr, Stopped>
+    ensures reads { Reads (spec.expr depth tokens.old) result tokens.new }
+    ensures derived { IfOk result (λ found. IsExpr depth found (tokens.old.0 ++ tokens.old.1) (tokens.new.0 ++ tokens.new.1)) }
+    ensures held { IfOk result (λ _. Pending tokens.new.0) }
+{
+    read_level(alloc, tokens, depth)
 }

@@ -1,7 +1,7 @@
 use Rattle.std.proofs.Common.{◌≡◌, arith}
 use Rattle.sl_parse_expr.specs.Levels.{expr}
 use Rattle.sl_parse_expr.proofs.Loops.{deeper}
-use Rattle.sl_parse_expr.proofs.reading.+read_expr.Goals as goal
+use Rattle.sl_parse_expr.proofs.reading.+read_level.Goals as goal
 
 pub returns-then-depth-eq0 : goal.returns-then-depth-eq0
 unfolding expr

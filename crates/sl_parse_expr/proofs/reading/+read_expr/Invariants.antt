@@ -1,4 +1,0 @@
-use Rattle.sl_parse_expr.proofs.reading.+read_expr.Given as goal
-
-abbrev pub decreases-read_expr : goal.decreases-read_expr
-decreases-read_expr l = l.depth

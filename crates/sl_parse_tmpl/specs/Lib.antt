@@ -1,0 +1,8 @@
+-- What a reader must believe, in this order.
+pub mod Words
+pub mod Trees
+pub mod LastNew
+pub mod Grammar
+-- The rules as readers, which the contracts cite.
+pub mod Rules
+pub mod Faults
