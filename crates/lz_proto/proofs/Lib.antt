@@ -8,3 +8,7 @@ pub mod Rules
 pub mod Waiters
 pub mod Finding
 pub mod New
+pub mod Standing
+pub mod Serving
+pub mod Pacing
+pub mod Pace

@@ -1,13 +1,15 @@
 -- What is promised of the protocol, over lists of acts.
-use Rattle.std.specs.Prelude.{◌≡◌, ℕ, ◌+◌, ◌<◌, ◌⊎◌, List, [], ◌∷◌, false, Option, length, All, replicate}
-use Rattle.lz_proto.specs.declared.pos.Pos.TheVariants.{Look, Open, Sleep, Cycle}
+use Rattle.std.specs.Prelude.{◌≡◌, ℕ, ◌+◌, ◌<◌, ◌⊎◌, List, [], ◌∷◌, false, nat_eq, if◌then◌else◌, Option, length, replicate}
+use Rattle.lz_proto.specs.declared.pos.Pos.TheVariants.{Open, Sleep}
 use Rattle.lz_proto.specs.declared.pos.Pos.TheVariants as pos
 use Rattle.lz_proto.specs.declared.state.State.TheVariants as state
+use Rattle.lz_proto.specs.declared.once.Once.{Once}
 use Rattle.lz_proto.specs.declared.once.Once.TheVariants as once
 use Rattle.lz_proto.specs.declared.stepped.Stepped.{Stepped}
 use Rattle.lz_proto.specs.declared.stepped.Stepped.TheVariants as stepped
 use Rattle.lz_proto.specs.declared.act.Act.{Act}
-use Rattle.lz_proto.specs.Protocol.{Protocol, position, thread, is_open}
+use Rattle.lz_proto.specs.declared.act.Act.TheVariants.{Read}
+use Rattle.lz_proto.specs.Protocol.{Protocol, position, is_open}
 use Rattle.lz_proto.specs.Steps.{Outcome, Moves, Waits, Refuses, acted}
 use Rattle.lz_proto.specs.Once.{abstract_of}
 
@@ -17,35 +19,48 @@ after p (Moves q) = q
 after p Waits = p
 after p Refuses = p
 
--- how many moved
-abbrev pub one_if_moved : Outcome → ℕ
-one_if_moved (Moves q) = 1
-one_if_moved Waits = 0
-one_if_moved Refuses = 0
-
 -- the state behind a list of acts
 unfoldable pub ran : Protocol → List (ℕ × Act) → Protocol
 ran p [] = p
 ran p (a ∷ acts) = ran (after p (acted p a.0 a.1)) acts
 
--- how many of them moved
-unfoldable pub moved : Protocol → List (ℕ × Act) → ℕ
-moved p [] = 0
-moved p (a ∷ acts) = one_if_moved (acted p a.0 a.1) + moved (after p (acted p a.0 a.1)) acts
+-- an act that enters an accessor
+abbrev pub IsRead : Act → Type 0
+IsRead (Read c) = Unit {0}
+IsRead other = ⊥
+
+-- the acts are of so many accessors, and none of them enters this one again
+unfoldable pub IsOneRead : ℕ → ℕ → List (ℕ × Act) → Type 0
+IsOneRead n who [] = Unit {0}
+IsOneRead n who (a ∷ acts) = (a.0 < n) × (a.0 ≡ who → IsRead a.1 → ⊥) × IsOneRead n who acts
+
+-- 1 where an act moved
+abbrev pub if_moved : Outcome → ℕ
+if_moved (Moves q) = 1
+if_moved Waits = 0
+if_moved Refuses = 0
+
+-- how many steps an accessor makes in a list of acts
+unfoldable pub steps : ℕ → Protocol → List (ℕ × Act) → ℕ
+steps who p [] = 0
+steps who p (a ∷ acts) = (if nat_eq a.0 who then if_moved (acted p a.0 a.1) else 0) + steps who (after p (acted p a.0 a.1)) acts
+
+-- 1 where two differ
+abbrev pub differ : Once → Once → ℕ
+differ once.Empty once.Empty = 0
+differ (once.Running u) (once.Running w) = if nat_eq u w then 0 else 1
+differ (once.Done v) (once.Done w) = if nat_eq v w then 0 else 1
+differ o x = 1
+
+-- how often a cell changes to its readers in a list of acts
+unfoldable pub changes : ℕ → Protocol → List (ℕ × Act) → ℕ
+changes c p [] = 0
+changes c p (a ∷ acts) = differ (abstract_of p c) (abstract_of (after p (acted p a.0 a.1)) c) + changes c (after p (acted p a.0 a.1)) acts
 
 -- where an accessor waits, its latch is closed, and its cell is running or some accessor is about to open the latch
 abbrev pub WaitsWell : Protocol → ℕ → Type 0
 WaitsWell p who =
     (c : ℕ) × (latch : ℕ) × (position p who ≡ Sleep c latch) × (is_open p latch ≡ false) × (((u : ℕ) × (abstract_of p c ≡ once.Running u)) ⊎ ((u : ℕ) × (r : Option ℕ) × (position p u ≡ Open latch r)))
-
--- an accessor that throws LazyCycle has found its cell run by an accessor of its own thread
-abbrev pub MeetsItself : Protocol → ℕ → Type 0
-MeetsItself p who =
-    (c : ℕ) × (u : ℕ) × (position p who ≡ Look c) × (abstract_of p c ≡ once.Running u) × (thread p u ≡ thread p who)
-
--- the acts are of accessors that are there
-abbrev pub AreThere : ℕ → List (ℕ × Act) → Type 0
-AreThere n acts = All (λ a. a.0 < n) acts
 
 -- a new state: all cells are empty, no accessor has begun, and there is no latch
 abbrev pub IsNew : ℕ → List ℕ → Protocol → Type 0

@@ -12,7 +12,7 @@ mod stepped;
 mod stepping;
 
 pub use act::Act;
-pub use laws::{steps, waiting};
+pub use laws::{reads, steps, waiting};
 pub use once::Once;
 pub use pos::Pos;
 pub use proto::Proto;

@@ -1,0 +1,113 @@
+-- An act moves its own accessor alone, and takes at most one latch of the room.
+use Rattle.std.proofs.Common.{◌≡◌, ◌≢◌, ℕ, ◌≤◌, ◌<◌, ◌+◌, [], ◌∷◌, length, get_or, slice_set, Bool, true, false, nat_eq, nat_lt, Option, Some, None, refl, ap, ◌∙◌, subst, arith, if◌then◌else◌, ◌&&◌}
+use Rattle.std.proofs.lemmas.List.{length-set, get_or-set_other, get_or_append_left}
+use Rattle.lz_proto.specs.declared.state.State.{State}
+use Rattle.lz_proto.specs.declared.state.State.TheVariants.{Empty, Evaluating, Waiting, Done}
+use Rattle.lz_proto.specs.declared.pos.Pos.{Pos}
+use Rattle.lz_proto.specs.declared.pos.Pos.TheVariants.{Idle, Look, Claim, Body, Store, Take, Swap, Open, Mark, Place, Sleep, Got, Failed, Cycle}
+use Rattle.lz_proto.specs.declared.act.Act.{Act}
+use Rattle.lz_proto.specs.declared.act.Act.TheVariants.{Read, Return, Throw, Go}
+use Rattle.lz_proto.specs.Protocol.{Protocol, content, position, thread, is_open, named}
+use Rattle.lz_proto.specs.Steps.{Outcome, Moves, Waits, Refuses, has_ended, goes, claims, places, sleeps, stores, takes, swaps, next, finish, acted}
+
+-- behind a move of this accessor
+abbrev pub Near : Protocol → ℕ → Outcome → Type 0
+Near p who (Moves q) = (to : Pos) × (q.at ≡ slice_set p.at who to) × (q.threads ≡ p.threads) × (p.spare ≤ q.spare + 1) × ((latch : ℕ) → latch < length p.owner → named q latch ≡ named p latch)
+Near p who Waits = Unit {0}
+Near p who Refuses = Unit {0}
+
+module _ (p : Protocol) (who : ℕ) where
+  near_if : (b : Bool) (x y : Outcome) → Near p who x → Near p who y → Near p who (if b then x else y)
+  near_if true x y nx ny = nx
+  near_if false x y nx ny = ny
+
+  goes_near : (to : Pos) → Near p who (goes p who to)
+  goes_near to = (to, refl, refl, omega arith, λ latch made. refl)
+
+  claims_near : (c : ℕ) (s : State) → Near p who (claims p who c s)
+  claims_near c Empty = (Body c, refl, refl, omega arith, λ latch made. refl)
+  claims_near c (Evaluating t) = goes_near (Look c)
+  claims_near c (Waiting latch) = goes_near (Look c)
+  claims_near c (Done v) = goes_near (Look c)
+
+  places_near : (c latch : ℕ) (s : State) → Near p who (places p who c latch s)
+  places_near c latch (Evaluating t) = near_if (nat_eq t (named p latch)) _ _ (Look c, refl, refl, omega arith, λ latch made. refl) (goes_near (Look c))
+  places_near c latch Empty = goes_near (Look c)
+  places_near c latch (Waiting other) = goes_near (Look c)
+  places_near c latch (Done v) = goes_near (Look c)
+
+  stores_near : (c : ℕ) (r : Option ℕ) (s : State) → Near p who (stores p who c r s)
+  stores_near c r (Evaluating t) = near_if (nat_eq t (thread p who)) _ _ (_, refl, refl, omega arith, λ latch made. refl) (goes_near (Take c r))
+  stores_near c r Empty = goes_near (Take c r)
+  stores_near c r (Waiting other) = goes_near (Take c r)
+  stores_near c r (Done v) = goes_near (Take c r)
+
+  takes_near : (c : ℕ) (r : Option ℕ) (s : State) → Near p who (takes p who c r s)
+  takes_near c r (Waiting latch) = goes_near (Swap c r latch)
+  takes_near c r Empty = tt
+  takes_near c r (Evaluating t) = tt
+  takes_near c r (Done v) = tt
+
+  swaps_near : (c : ℕ) (r : Option ℕ) (latch : ℕ) (s : State) → Near p who (swaps p who c r latch s)
+  swaps_near c r latch (Waiting other) = near_if (nat_eq other latch) _ _ (Open latch r, refl, refl, omega arith, λ latch made. refl) tt
+  swaps_near c r latch Empty = tt
+  swaps_near c r latch (Evaluating t) = tt
+  swaps_near c r latch (Done v) = tt
+
+  sleeps_near : (c : ℕ) (b : Bool) → Near p who (sleeps p who c b)
+  sleeps_near c true = goes_near (Look c)
+  sleeps_near c false = tt
+
+  next_near : (pos : Pos) → Near p who (next p who pos)
+  next_near (Look c) = goes_near _
+  next_near (Claim c) = claims_near c (content p c)
+  next_near (Store c r) = stores_near c r (content p c)
+  next_near (Take c r) = takes_near c r (content p c)
+  next_near (Swap c r latch) = swaps_near c r latch (content p c)
+  next_near (Open latch r) = (_, refl, refl, omega arith, λ latch made. refl)
+  next_near (Mark c t) = (Place c (length p.opened), refl, refl, omega arith, λ latch made. get_or_append_left p.owner (t ∷ []) 0 latch made)
+  next_near (Place c latch) = places_near c latch (content p c)
+  next_near (Sleep c latch) = sleeps_near c (is_open p latch)
+  next_near Idle = tt
+  next_near (Body c) = tt
+  next_near (Got v) = tt
+  next_near Failed = tt
+  next_near Cycle = tt
+
+  finish_near : (pos : Pos) (r : Option ℕ) → Near p who (finish p who pos r)
+  finish_near (Body c) r = goes_near (Store c r)
+  finish_near Idle r = tt
+  finish_near (Look c) r = tt
+  finish_near (Claim c) r = tt
+  finish_near (Store c s) r = tt
+  finish_near (Take c s) r = tt
+  finish_near (Swap c s latch) r = tt
+  finish_near (Open latch s) r = tt
+  finish_near (Mark c t) r = tt
+  finish_near (Place c latch) r = tt
+  finish_near (Sleep c latch) r = tt
+  finish_near (Got v) r = tt
+  finish_near Failed r = tt
+  finish_near Cycle r = tt
+
+  pub act_near : (act : Act) → Near p who (acted p who act)
+  act_near (Read c) = near_if (has_ended (position p who) && nat_lt c (length p.cells)) _ _ (goes_near (Look c)) tt
+  act_near (Return v) = finish_near (position p who) (Some v)
+  act_near Throw = finish_near (position p who) None
+  act_near Go = next_near (position p who)
+
+  -- the others stand where they stood
+  pub others_stand : (act : Act) (q : Protocol) → acted p who act ≡ Moves q → (u : ℕ) → u ≢ who → position q u ≡ position p u
+  others_stand act q e u ne =
+      let near = subst (Near p who) e (act_near act) in
+      ap (λ at. get_or at u Idle) near.1 ∙ get_or-set_other p.at who u near.0 Idle ne
+
+  -- as many accessors are there
+  pub as_many : (act : Act) (q : Protocol) → acted p who act ≡ Moves q → length q.at ≡ length p.at
+  as_many act q e =
+      let near = subst (Near p who) e (act_near act) in
+      ap length near.1 ∙ length-set p.at who near.0
+
+  -- latches name whom they named
+  pub names_stay : (act : Act) (q : Protocol) → acted p who act ≡ Moves q → (latch : ℕ) → latch < length p.owner → named q latch ≡ named p latch
+  names_stay act q e = (subst (Near p who) e (act_near act)).4
