@@ -1,5 +1,5 @@
 -- Systems whose threads share a heap: a step of a thread reads and changes the heap and this thread, and may begin another.
-use Rattle.std.specs.Prelude.{ℕ, suc, List, Bool, Option, None, Some}
+use Rattle.std.specs.Prelude.{◌&&◌, ℕ, suc, not, nat_eq, List, Bool, Option, None, Some}
 use Rattle.runs.specs.System.{Next, Goes, Waits, Ended, Stuck, System, put}
 
 -- what a step leaves: the heap, its thread, and the thread that it began, if any
@@ -21,7 +21,7 @@ pub record SharedHeap (Event Place H T : Type 0) : Type 0 where
   pub inits : ℕ → H → T → ℕ
   pub trace : H → List Event
   pub place : H → T → Place
-  -- `blocks h x u y`: whether thread u, which stands at y, runs the initialiser that a thread at x waits for
+  -- `blocks h x u y`: whether thread u, which stands at y, runs the initialiser that another thread, at x, waits for
   pub blocks : H → T → ℕ → T → Bool
   -- `opens h y x`: whether a thread at y is about to open the latch that a thread at x awaits
   pub opens : H → T → T → Bool
@@ -51,7 +51,7 @@ stepped t s Waits = Waits
 stepped t s Ended = Ended
 stepped t s Stuck = Stuck
 
--- the system of these threads
+-- the system of these threads; none waits for itself
 abbrev pub system_of : {Event Place H T : Type 0} → SharedHeap Event Place H T → System Event Place (HeapState H T)
 system_of m = record {
   first = m.first;
@@ -60,6 +60,6 @@ system_of m = record {
   threads = λ s. s.count;
   trace = λ s. m.trace s.heap;
   place = λ s t. m.place s.heap (s.threads t);
-  blocks = λ s t u. m.blocks s.heap (s.threads t) u (s.threads u);
+  blocks = λ s t u. not (nat_eq t u) && m.blocks s.heap (s.threads t) u (s.threads u);
   opens = λ s u t. m.opens s.heap (s.threads u) (s.threads t);
 }

@@ -48,7 +48,7 @@ abbrev pub IsLeastCycle : (ℕ → ℕ → Type 0) → List ℕ → Type 0
 IsLeastCycle R [] = ⊥
 IsLeastCycle R (t ∷ ts) = IsCycle R (t ∷ ts) × ((us : List ℕ) → IsCycle R us → All (λ u. t ≤ u) us)
 
--- threads, each of which waits for the next, and the last for the first
+-- threads, each of which waits for the next, and the last for the first; where none waits for itself, two or more
 abbrev pub Cycle : {Event Place S : Type 0} → System Event Place S → S → List ℕ → Type 0
 Cycle s x ts = IsCycle (WaitsFor s x) ts
 

@@ -8,7 +8,7 @@ ghost use Rattle.runs.specs.Refines.{Agree, Implements, Refines};
 ghost use Rattle.runs.specs.SharedHeap.{HeapState, SharedHeap, system_of};
 ghost use Rattle.runs.specs.Simulates.{AgreePlainly, AreReached, Pairs, Simulates, ThreadAgrees};
 ghost use Rattle.runs.specs.System.{reach, Stuck, System};
-ghost use Rattle.runs.specs.Waiting.{AllWait, HasCycles, LeastCycle};
+ghost use Rattle.runs.specs.Waiting.{AllWait, For, HasCycles, LeastCycle};
 
 /// Refinements compose, a larger bound serves too, and a system that is never stuck refines itself.
 pub fn composition<E, P, A, B, C>()
@@ -57,6 +57,11 @@ pub fn matching_by_parts<E, P, A, B, X, Y, G, H>()
 pub fn quiet_moves<E, P, H, T, B, W>()
     ensures { (m : SharedHeap E P H T) (up : System E P B) (pairs : Pairs (HeapState H T) B W) (q c : ℕ)
         → MatchesQuietly m up pairs q c → Refines (system_of m) up (q + c + 1) }
+{}
+
+/// A thread waits for another one always, where threads share a heap: so a cycle of waiting threads has two or more.
+pub fn waits_for_others<E, P, H, T>()
+    ensures { (m : SharedHeap E P H T) (s : HeapState H T) (t u : ℕ) (place : P) → For (system_of m) s t u place → u ≢ t }
 {}
 
 /// What shows that states agree, and what follows from it.

@@ -90,9 +90,8 @@ place_of p h th (Some (act.ReadModule class)) = unwrap_or (class_name p class) [
 place_of p h th (Some (act.Await v)) = top_name p th.contexts
 place_of p h th other = []
 
--- ---- whom it waits for, always another thread: who runs the initialiser of the cell or the initialisation of the object;
--- and at a latch, who runs the method `x$init` of the class and object whose method `x` awaits it, and awaits none there
--- itself
+-- ---- whom it waits for: who runs the initialiser of the cell or the initialisation of the object; and at a latch, who runs
+-- the method `x$init` of the class and object whose method `x` awaits it
 
 abbrev pub is_run_by : ℕ → Option Once → Bool
 is_run_by u (Some (once.Running t)) = t == u
@@ -134,18 +133,14 @@ same_part _ _ = false
 abbrev pub same_place : Context → Context → Bool
 same_place c d = (d.class == c.class) && same_part d.part c.part && is_same_object d.this c.this
 
-abbrev pub is_await : Option Act → Bool
-is_await (Some (act.Await v)) = true
-is_await other = false
-
-abbrev pub awaits_of : Program → List Context → List Context → Option Act → Bool
-awaits_of p (c ∷ cs) (d ∷ ds) a = some_initialises p c (d ∷ ds) && not (is_await a && same_place c d)
-awaits_of p _ _ a = false
+abbrev pub awaits_of : Program → List Context → List Context → Bool
+awaits_of p [] ds = false
+awaits_of p (c ∷ cs) ds = some_initialises p c ds
 
 abbrev pub blocked_by : Program → Heap → Thread → ℕ → Thread → Option Act → Bool
 blocked_by p h x u y (Some (act.ReadCell (value.Ref r) class cell)) = cell_run_by p u class cell (slice_get h.objects r)
 blocked_by p h x u y (Some (act.ReadModule class)) = module_run_by u (slice_get h.modules class)
-blocked_by p h x u y (Some (act.Await v)) = awaits_of p x.contexts y.contexts (next_act p y)
+blocked_by p h x u y (Some (act.Await v)) = awaits_of p x.contexts y.contexts
 blocked_by p h x u y other = false
 
 -- ---- who frees it: a thread in the same method of the same object that has the latch in a local

@@ -3,10 +3,8 @@
 
 mod act;
 mod answer;
-mod laws;
 mod moves;
 
 pub use act::{Act, Args};
 pub use answer::{Answer, Edit};
-pub use laws::waits_for_others;
 pub use moves::Move;
