@@ -29,7 +29,7 @@ pub use giving::given;
 pub use judging::ending_of;
 pub use laws::{
     agreement, bound_is_needed, composition, implementation, matching, matching_by_parts,
-    quiet_moves, simulation,
+    quiet_moves, simulation, waits_for_others,
 };
 pub use next_step::NextStep;
 pub use ran::Ran;
