@@ -25,6 +25,7 @@ method_body m = option_map (λ e. record { node = ExprTree e; locals = m.locals 
 abbrev pub cell_body : Cell → Body
 cell_body cell = record { node = ExprTree cell.init; locals = cell.locals }
 
+-- the body of a part of a class, and of a class of a program
 abbrev pub body_in : Class → Part → Option Body
 body_in class (part.Method m) = option_and_then method_body (slice_get class.methods m)
 body_in class (part.Init cell) = option_map cell_body (slice_get class.cells cell)
@@ -58,6 +59,7 @@ main_entry class method m = record {
   args = replicate (length m.params) (Some value.Null);
 }
 
+-- the context before `main`
 abbrev pub main_in : ℕ → ℕ → Method → Option Context
 main_in class method m = option_map (entered (main_entry class method m)) (method_body m)
 

@@ -52,6 +52,7 @@ abbrev pub made_fields : List Class → Option Value → List ℕ → List Value
 made_fields classes given [] = []
 made_fields classes given (c ∷ linear) = map (λ f. initial given f.ty) (fields_of classes c) ++ made_fields classes given linear
 
+-- the cells of a new object: all Empty
 abbrev pub made_cells : List Class → List ℕ → List Once
 made_cells classes [] = []
 made_cells classes (c ∷ linear) = map (λ cell. once.Empty) (cells_of classes c) ++ made_cells classes linear

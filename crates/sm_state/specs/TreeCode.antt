@@ -14,6 +14,7 @@ use Rattle.ty_prog.specs.contracts.class.Class as class
 use Rattle.ty_prog.specs.contracts.stage.Stage as stage
 use Rattle.ty_prog.specs.Tree.{Tree, ExprTree, CaseTree, PatternTree, ConstructorTree, StageTree}
 
+-- trees as a sum of the five kinds of roots, and back
 abbrev Sum : Type 0
 Sum = Expr ⊎ (Case ⊎ (Pattern ⊎ (Class ⊎ Stage)))
 

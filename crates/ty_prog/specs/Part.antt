@@ -10,6 +10,7 @@ part_tree (part.Expr e) = ExprTree e
 part_tree (part.Case c) = CaseTree c
 part_tree (part.Pattern p) = PatternTree p
 
+-- whether a tree is an expression, a case or a pattern
 pub data TreeKind : Type 0 where
   AnExpr : TreeKind
   ACase : TreeKind

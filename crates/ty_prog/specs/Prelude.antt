@@ -41,6 +41,7 @@ runnable = class (codes "Runnable") kind.Trait [] (0 ∷ []) [] [] (method (code
 abbrev pub thread_fields : List Field
 thread_fields = record { name = codes "target"; ty = ty.Class 0 } ∷ record { name = codes "started"; ty = ty.Boolean } ∷ []
 
+-- the class, whose constructor has the target
 abbrev pub thread : Class
 thread = class (codes "Thread") kind.Class [] (1 ∷ []) (0 ∷ []) thread_fields
     (method (codes "start") ty.Unit (Some (expr.Start expr.This)) ∷ []) [] 1
@@ -53,6 +54,7 @@ message = record { name = codes "message"; ty = ty.Text } ∷ []
 abbrev pub get_message : Expr
 get_message = expr.Get expr.This 2 0
 
+-- the name of the class of `this`
 abbrev pub class_name : Expr
 class_name = expr.Prim op.ClassName (expr.This ∷ [])
 
@@ -71,6 +73,7 @@ throwable = class (codes "Throwable") kind.Class [] (2 ∷ []) (0 ∷ []) messag
 abbrev pub exception : List ℕ → Kind → ℕ → List ℕ → Class
 exception name kind parent linear = class name kind (parent ∷ []) linear (0 ∷ []) message [] (expr.Local 0 ∷ []) 1
 
+-- the classes below Throwable, in their order
 abbrev pub exceptions : List Class
 exceptions =
     exception (codes "Exception") kind.Class 2 (3 ∷ 2 ∷ [])
@@ -91,5 +94,6 @@ exceptions =
     ∷ exception (codes "LazyCycle") kind.Class 4 (18 ∷ 4 ∷ 3 ∷ 2 ∷ [])
     ∷ []
 
+-- all of them, in their order
 abbrev pub prelude : List Class
 prelude = runnable ∷ thread ∷ throwable ∷ exceptions

@@ -48,6 +48,7 @@ handler_len None = 0
 handler_len (Some (Catch-F.Cases cases)) = length cases
 handler_len (Some (Catch-F.«Catch::Any» local body)) = 1
 
+-- an expression that may be left out
 abbrev pub optional_rebuilt : Option One → List Tree → Option Expr
 optional_rebuilt None parts = None
 optional_rebuilt (Some one) parts = Some (first_expr parts)

@@ -27,6 +27,7 @@ PatternForm = Pattern-F One One One One
 abbrev pub CaseForm : Type 0
 CaseForm = Case-F One One One One
 
+-- the shape of a node: its form, with its children left out
 pub data Shape : Type 0 where
   ExprShape : (form : ExprForm) → Shape
   CaseShape : (form : CaseForm) → Shape
@@ -34,6 +35,7 @@ pub data Shape : Type 0 where
   ConstructorShape : (class : Class) → Shape
   StageShape : (stage : Stage) → Shape
 
+-- a part left out
 abbrev pub to_one : {A : Type 0} → A → One
 to_one x = tt
 

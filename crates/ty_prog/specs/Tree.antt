@@ -12,6 +12,7 @@ use Rattle.ty_prog.specs.declared.kind.Kind.TheVariants as kind
 use Rattle.ty_prog.specs.declared.stage.Stage.{Stage}
 use Rattle.ty_prog.specs.declared.stage.Stage.TheVariants as stage
 
+-- a tree of L, by the kind of its root: an expression, a case, a pattern, a constructor, a stage of one
 pub data Tree : Type 0 where
   ExprTree : (e : Expr) → Tree
   CaseTree : (c : Case) → Tree
@@ -32,6 +33,7 @@ PatternLevel = Pattern-F Catch Expr Pattern Case
 abbrev pub CaseLevel : Type 0
 CaseLevel = Case-F Catch Expr Pattern Case
 
+-- the list, or an empty one where there is none
 abbrev pub or_none : {A : Type 0} → Option (List A) → List A
 or_none None = []
 or_none (Some parts) = parts
@@ -95,6 +97,7 @@ pattern_parts expr pattern (Pattern-F.Either parts) = map pattern parts
 abbrev pub case_parts : {C E P K A : Type 0} → (E → A) → (P → A) → Case-F C E P K → List A
 case_parts expr pattern c = pattern c.pattern ∷ option_to_list (option_map expr c.guard) ++ expr c.body ∷ []
 
+-- the children of a handler
 abbrev pub handler_children : Catch → List Tree
 handler_children c = handler_parts ExprTree CaseTree (out-Catch c)
 
