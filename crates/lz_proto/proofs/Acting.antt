@@ -13,7 +13,7 @@ use Rattle.lz_proto.specs.Once.{is_inside}
 use Rattle.lz_proto.specs.Kept.{Stage, Set, is_over, IsShared, IsLatched, Keeps, IsIdle, IsRun, Holds, IsKept}
 use Rattle.lz_proto.proofs.Kept.{is_opening, goes_keeps}
 use Rattle.lz_proto.proofs.Writing.{claims_keep, stores_keep, swaps_keep}
-use Rattle.lz_proto.proofs.Latches.{made, marks_keep, places_keep, opens_keep}
+use Rattle.lz_proto.proofs.Latches.{made, made_for, marks_keep, places_keep, opens_keep}
 
 abbrev pub number : Outcome → ℕ
 number (Moves q) = 0
@@ -193,6 +193,10 @@ module _ (p : Protocol) (stage : ℕ → Stage) (h : Holds p stage) (who : ℕ) 
   swap_keeps c r latch at (Evaluating t) is = refuses
   swap_keeps c r latch at (Done v) is = refuses
 
+  mark_keeps : (c t : ℕ) → position p who ≡ Mark c t → (b : Bool) → Kept (if b then Moves (made_for p who c t) else Refuses)
+  mark_keeps c t at true = λ q e. subst IsKept (moves_same e) (_, marks_keep p stage h who within c t at)
+  mark_keeps c t at false = refuses
+
   pub next_keeps : (pos : Pos) → position p who ≡ pos → Kept (next p who pos)
   next_keeps (Look c) at = look_keeps c at (content p c) refl
   next_keeps (Claim c) at = claim_keeps c at (content p c) refl
@@ -200,7 +204,7 @@ module _ (p : Protocol) (stage : ℕ → Stage) (h : Holds p stage) (who : ℕ) 
   next_keeps (Take c r) at = take_keeps c r at (content p c) refl
   next_keeps (Swap c r latch) at = swap_keeps c r latch at (content p c) refl
   next_keeps (Open latch r) at = λ q e. subst IsKept (moves_same e) (_, opens_keep p stage h who within latch r at (λ cells n stage. ended_keeps r cells n stage who))
-  next_keeps (Mark c t) at = λ q e. subst IsKept (moves_same e) (_, marks_keep p stage h who within c t at)
+  next_keeps (Mark c t) at = mark_keeps c t at (nat_lt 0 p.spare)
   next_keeps (Place c latch) at = place_keeps c latch at (content p c) refl
   next_keeps (Sleep c latch) at = sleep_keeps c latch at (is_open p latch)
   next_keeps Idle at = refuses

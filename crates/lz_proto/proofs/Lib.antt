@@ -12,3 +12,6 @@ pub mod Standing
 pub mod Serving
 pub mod Pacing
 pub mod Pace
+pub mod Own
+pub mod Refusing
+pub mod Midway

@@ -20,6 +20,9 @@ everywhere_same n i x = go (cases i n)
     go (inl within) = get_or-replicate n i x x within
     go (inr past) = get_or_past (replicate n x) i x (omega (arith, length-replicate n x))
 
+pub new_stands : (n who : ℕ) → get_or (replicate n Idle) who Idle ≡ Idle
+new_stands n who = everywhere_same n who Idle
+
 abbrev pub new : ℕ → List ℕ → Protocol
 new n threads = record { cells = replicate n Empty; opened = []; owner = []; at = replicate (length threads) Idle; threads = threads; spare = 0 }
 

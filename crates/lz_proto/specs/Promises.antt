@@ -1,6 +1,7 @@
 -- What is promised of the protocol, over lists of acts.
-use Rattle.std.specs.Prelude.{◌≡◌, ℕ, ◌+◌, ◌<◌, ◌⊎◌, List, [], ◌∷◌, false, nat_eq, if◌then◌else◌, Option, length, replicate}
-use Rattle.lz_proto.specs.declared.pos.Pos.TheVariants.{Open, Sleep}
+use Rattle.std.specs.Prelude.{◌≡◌, ℕ, ◌+◌, ◌<◌, ◌≤◌, ◌⊎◌, List, [], ◌∷◌, Bool, true, false, nat_eq, if◌then◌else◌, Option, length, replicate}
+use Rattle.lz_proto.specs.declared.pos.Pos.{Pos}
+use Rattle.lz_proto.specs.declared.pos.Pos.TheVariants.{Open, Mark, Sleep}
 use Rattle.lz_proto.specs.declared.pos.Pos.TheVariants as pos
 use Rattle.lz_proto.specs.declared.state.State.TheVariants as state
 use Rattle.lz_proto.specs.declared.once.Once.{Once}
@@ -8,10 +9,10 @@ use Rattle.lz_proto.specs.declared.once.Once.TheVariants as once
 use Rattle.lz_proto.specs.declared.stepped.Stepped.{Stepped}
 use Rattle.lz_proto.specs.declared.stepped.Stepped.TheVariants as stepped
 use Rattle.lz_proto.specs.declared.act.Act.{Act}
-use Rattle.lz_proto.specs.declared.act.Act.TheVariants.{Read}
-use Rattle.lz_proto.specs.Protocol.{Protocol, position, is_open}
-use Rattle.lz_proto.specs.Steps.{Outcome, Moves, Waits, Refuses, acted}
-use Rattle.lz_proto.specs.Once.{abstract_of}
+use Rattle.lz_proto.specs.declared.act.Act.TheVariants.{Read, Return, Throw, Go}
+use Rattle.lz_proto.specs.Protocol.{Protocol, position, thread, is_open, named}
+use Rattle.lz_proto.specs.Steps.{Outcome, Moves, Waits, Refuses, has_ended, acted}
+use Rattle.lz_proto.specs.Once.{abstract_of, Follows}
 
 -- the state behind an act; one that doesn't move changes nothing
 abbrev pub after : Protocol → Outcome → Protocol
@@ -57,10 +58,50 @@ unfoldable pub changes : ℕ → Protocol → List (ℕ × Act) → ℕ
 changes c p [] = 0
 changes c p (a ∷ acts) = differ (abstract_of p c) (abstract_of (after p (acted p a.0 a.1)) c) + changes c (after p (acted p a.0 a.1)) acts
 
--- where an accessor waits, its latch is closed, and its cell is running or some accessor is about to open the latch
+-- how many acts of a list move
+unfoldable pub moves : Protocol → List (ℕ × Act) → ℕ
+moves p [] = 0
+moves p (a ∷ acts) = if_moved (acted p a.0 a.1) + moves (after p (acted p a.0 a.1)) acts
+
+-- the same of an answer
+abbrev pub count_of : Stepped → ℕ
+count_of stepped.Moved = 1
+count_of stepped.Waits = 0
+count_of stepped.Wrong = 0
+
+-- each act of a list that moves is a step by the rules
+unfoldable pub AllFollow : Protocol → List (ℕ × Act) → Type 0
+AllFollow p [] = Unit {0}
+AllFollow p (a ∷ acts) = ((q : Protocol) → acted p a.0 a.1 ≡ Moves q → Follows p a.0 a.1 q) × AllFollow (after p (acted p a.0 a.1)) acts
+
+-- where an accessor waits, its latch is closed, and the latch names the thread that runs its cell, or some accessor is about to open the latch
 abbrev pub WaitsWell : Protocol → ℕ → Type 0
 WaitsWell p who =
-    (c : ℕ) × (latch : ℕ) × (position p who ≡ Sleep c latch) × (is_open p latch ≡ false) × (((u : ℕ) × (abstract_of p c ≡ once.Running u)) ⊎ ((u : ℕ) × (r : Option ℕ) × (position p u ≡ Open latch r)))
+    (c : ℕ) × (latch : ℕ) × (position p who ≡ Sleep c latch) × (is_open p latch ≡ false) × (((u : ℕ) × (abstract_of p c ≡ once.Running u) × (named p latch ≡ thread p u)) ⊎ ((u : ℕ) × (r : Option ℕ) × (position p u ≡ Open latch r)))
+
+-- an accessor of the same thread runs the cell's initialiser
+abbrev pub IsOwn : Protocol → ℕ → ℕ → Type 0
+IsOwn p who c = (u : ℕ) × (abstract_of p c ≡ once.Running u) × (thread p u ≡ thread p who)
+
+-- no accessor awaits a latch that names its own thread
+abbrev pub IsApart : Protocol → Type 0
+IsApart p = (who c latch : ℕ) → position p who ≡ Sleep c latch → named p latch ≡ thread p who → ⊥
+
+-- its initialiser runs
+abbrev pub is_in_body : Pos → Bool
+is_in_body (pos.Body c) = true
+is_in_body other = false
+
+-- an accessor can't do this: it is entered in the midst of a read, or to read no cell; an initialiser ends that doesn't run; it has no next step of its own
+abbrev pub IsWrong : Protocol → ℕ → Act → Type 0
+IsWrong p who (Read c) = (has_ended (position p who) ≡ false) ⊎ (length p.cells ≤ c)
+IsWrong p who (Return v) = is_in_body (position p who) ≡ false
+IsWrong p who Throw = is_in_body (position p who) ≡ false
+IsWrong p who Go = (has_ended (position p who) ≡ true) ⊎ (is_in_body (position p who) ≡ true)
+
+-- it would make a latch, and there is no room
+abbrev pub IsFull : Protocol → ℕ → Act → Type 0
+IsFull p who act = (act ≡ Go) × (c : ℕ) × (t : ℕ) × (position p who ≡ Mark c t) × (p.spare ≡ 0)
 
 -- a new state: all cells are empty, no accessor has begun, and there is no latch
 abbrev pub IsNew : ℕ → List ℕ → Protocol → Type 0
