@@ -15,3 +15,5 @@ pub mod Pace
 pub mod Own
 pub mod Refusing
 pub mod Midway
+pub mod CanGo
+pub mod WrittenOnce

@@ -74,6 +74,20 @@ unfoldable pub AllFollow : Protocol → List (ℕ × Act) → Type 0
 AllFollow p [] = Unit {0}
 AllFollow p (a ∷ acts) = ((q : Protocol) → acted p a.0 a.1 ≡ Moves q → Follows p a.0 a.1 q) × AllFollow (after p (acted p a.0 a.1)) acts
 
+-- the initialiser of this cell returns a value by this act of an accessor that stands here
+abbrev pub is_return : ℕ → Pos → Act → Bool
+is_return c (pos.Body d) (Return v) = nat_eq d c
+is_return c at act = false
+
+-- how often the initialiser of a cell returns a value in a list of acts
+unfoldable pub returned : ℕ → Protocol → List (ℕ × Act) → ℕ
+returned c p [] = 0
+returned c p (a ∷ acts) = (if is_return c (position p a.0) a.1 then 1 else 0) + returned c (after p (acted p a.0 a.1)) acts
+
+-- an accessor can make its next step
+abbrev pub CanGo : Protocol → ℕ → Type 0
+CanGo p who = (q : Protocol) × (acted p who Go ≡ Moves q)
+
 -- where an accessor waits, its latch is closed, and the latch names the thread that runs its cell, or some accessor is about to open the latch
 abbrev pub WaitsWell : Protocol → ℕ → Type 0
 WaitsWell p who =

@@ -1,6 +1,7 @@
 //! What holds of every step.
 
-ghost use Rattle.std.specs.Prelude.{◌≡◌, ◌<◌, ◌≤◌, ◌+◌, ◌*◌, ◌⊎◌, ◌∷◌, ℕ, List, false, length};
+ghost use Rattle.std.specs.Prelude.{◌≡◌, ◌<◌, ◌≤◌, ◌+◌, ◌*◌, ◌⊎◌, ◌∷◌, ℕ, List, true, false, Option, length};
+ghost use Rattle.std.specs.List.{All};
 ghost use Rattle.lz_proto.specs.declared.act.Act.{Act};
 ghost use Rattle.lz_proto.specs.declared.act.Act.TheVariants.{Read, Go};
 ghost use Rattle.lz_proto.specs.declared.pos.Pos.TheVariants as pos;
@@ -8,7 +9,7 @@ ghost use Rattle.lz_proto.specs.Protocol.{Protocol, position, is_open};
 ghost use Rattle.lz_proto.specs.Steps.{Moves, Waits, Refuses, acted, goes};
 ghost use Rattle.lz_proto.specs.Once.{Follows, abstract_of};
 ghost use Rattle.lz_proto.specs.Kept.{IsKept};
-ghost use Rattle.lz_proto.specs.Promises.{WaitsWell, IsOneRead, IsNew, IsOwn, IsApart, IsWrong, IsFull, ran, steps, changes};
+ghost use Rattle.lz_proto.specs.Promises.{WaitsWell, IsOneRead, IsNew, IsOwn, IsApart, IsWrong, IsFull, CanGo, ran, steps, changes, returned};
 ghost use Rattle.lz_proto.specs.declared.once.Once.TheVariants as once;
 
 /// A new state keeps what every state keeps, and nobody in it awaits its own thread.
@@ -40,6 +41,21 @@ pub fn cycles()
 pub fn waiting()
     ensures only { (p : Protocol) → IsKept p → (who : ℕ) → (act : Act) → acted p who act ≡ Waits → WaitsWell p who }
     ensures all { (p : Protocol) → (who c latch : ℕ) → position p who ≡ pos.Sleep c latch → is_open p latch ≡ false → acted p who Go ≡ Waits }
+{}
+
+/// Whom a waiter awaits can go on, where it isn't in its initialiser; it opens the latch, which stays open, and lets the waiter go.
+pub fn freeing()
+    ensures runs { (p : Protocol) → IsKept p → (u c : ℕ) → abstract_of p c ≡ once.Running u → (position p u ≡ pos.Body c) ⊎ CanGo p u }
+    ensures opens { (p : Protocol) → (u latch : ℕ) (r : Option ℕ) → position p u ≡ pos.Open latch r → CanGo p u }
+    ensures opened { (p q : Protocol) → (u latch : ℕ) (r : Option ℕ) → position p u ≡ pos.Open latch r → acted p u Go ≡ Moves q → is_open q latch ≡ true }
+    ensures stays { (p q : Protocol) → (who : ℕ) (act : Act) → acted p who act ≡ Moves q → (latch : ℕ) → latch < length p.opened → is_open p latch ≡ true → is_open q latch ≡ true }
+    ensures wakes { (p : Protocol) → (who c latch : ℕ) → position p who ≡ pos.Sleep c latch → is_open p latch ≡ true → CanGo p who }
+{}
+
+/// A cell is written once: in any list of acts its initialiser returns a value at most once, and the value stays.
+pub fn written()
+    ensures once { (c : ℕ) (acts : List (ℕ × Act)) (p : Protocol) → IsKept p → All (λ a. a.0 < length p.at) acts → returned c p acts ≤ 1 }
+    ensures stays { (c v : ℕ) (acts : List (ℕ × Act)) (p : Protocol) → IsKept p → All (λ a. a.0 < length p.at) acts → abstract_of p c ≡ once.Done v → abstract_of (ran p acts) c ≡ once.Done v }
 {}
 
 /// From the act that enters it to its end, in any list of acts: an accessor makes at most `16 * (2 + n)` steps, where the cell

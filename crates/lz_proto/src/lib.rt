@@ -13,7 +13,7 @@ mod stepped;
 mod stepping;
 
 pub use act::Act;
-pub use laws::{beginning, cycles, reads, refusals, steps, waiting};
+pub use laws::{beginning, cycles, freeing, reads, refusals, steps, waiting, written};
 pub use once::Once;
 pub use pos::Pos;
 pub use proto::Proto;
