@@ -1,5 +1,5 @@
 -- Whoever is awaited can go on, where it isn't in its initialiser.
-use Rattle.std.proofs.Common.{◌≡◌, ℕ, length, get_or, slice_set, Bool, true, false, nat_eq, Option, ◌⊎◌, inl, inr, sym, ap, subst, refl, ◌∙◌, arith, eqb-true, eq-eqb, true≢false, if◌then◌else◌}
+use Rattle.std.proofs.Common.{◌≡◌, ℕ, length, Bool, true, false, nat_eq, Option, ◌⊎◌, inl, inr, sym, ap, subst, refl, ◌∙◌, arith, eqb-true, eq-eqb, true≢false, if◌then◌else◌}
 use Rattle.lz_proto.specs.declared.state.State.{State}
 use Rattle.lz_proto.specs.declared.state.State.TheVariants.{Empty, Evaluating, Waiting, Done}
 use Rattle.lz_proto.specs.declared.pos.Pos.{Pos}
@@ -8,7 +8,7 @@ use Rattle.lz_proto.specs.declared.once.Once.{Once}
 use Rattle.lz_proto.specs.declared.once.Once.TheVariants as once
 use Rattle.lz_proto.specs.declared.act.Act.TheVariants.{Go}
 use Rattle.lz_proto.specs.Protocol.{Protocol, content, position, thread, is_open, named}
-use Rattle.lz_proto.specs.Steps.{Outcome, Moves, Waits, Refuses, ended, sleeps, stores, takes, swaps, next, acted}
+use Rattle.lz_proto.specs.Steps.{Outcome, Moves, Waits, Refuses, stores, takes, swaps, next, acted}
 use Rattle.lz_proto.specs.Once.{is_inside, abstract_of, once_of}
 use Rattle.lz_proto.specs.Kept.{Stage, IsLatched, Keeps, IsRunBy, IsRun, Holds}
 use Rattle.lz_proto.specs.Promises.{CanGo}

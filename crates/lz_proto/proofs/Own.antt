@@ -1,17 +1,17 @@
 -- An accessor whose own thread runs the cell throws LazyCycle, and awaits no latch of its thread.
-use Rattle.std.proofs.Common.{◌≡◌, ◌≢◌, ℕ, ◌<◌, List, length, replicate, Bool, true, false, nat_eq, ◌⊎◌, inl, inr, sym, ap, subst, refl, ◌∙◌, eqb-true, eq-eqb, true≢false, if◌then◌else◌}
+use Rattle.std.proofs.Common.{◌≡◌, ◌≢◌, ℕ, ◌<◌, List, length, Bool, true, false, nat_eq, ◌⊎◌, inl, inr, sym, ap, subst, refl, ◌∙◌, eqb-true, eq-eqb, true≢false, if◌then◌else◌}
 use Rattle.runs.proofs.Putting.{same_or_not}
 use Rattle.lz_proto.specs.declared.state.State.{State}
 use Rattle.lz_proto.specs.declared.state.State.TheVariants.{Empty, Evaluating, Waiting, Done}
 use Rattle.lz_proto.specs.declared.pos.Pos.{Pos}
-use Rattle.lz_proto.specs.declared.pos.Pos.TheVariants.{Idle, Look, Claim, Mark, Sleep, Got, Cycle}
+use Rattle.lz_proto.specs.declared.pos.Pos.TheVariants.{Look, Mark, Sleep, Cycle}
 use Rattle.lz_proto.specs.declared.once.Once.{Once}
 use Rattle.lz_proto.specs.declared.once.Once.TheVariants as once
 use Rattle.lz_proto.specs.declared.act.Act.{Act}
 use Rattle.lz_proto.specs.declared.act.Act.TheVariants.{Go}
 use Rattle.lz_proto.specs.Protocol.{Protocol, content, position, thread, named}
 use Rattle.lz_proto.specs.Steps.{Moves, acted, goes, looked, next}
-use Rattle.lz_proto.specs.Once.{abstract_of, once_of}
+use Rattle.lz_proto.specs.Once.{once_of}
 use Rattle.lz_proto.specs.Kept.{Stage, Keeps, IsRunBy, IsRun, Holds, IsKept}
 use Rattle.lz_proto.specs.Promises.{IsOwn, IsApart, IsNew}
 use Rattle.lz_proto.proofs.Acting.{waits_for_made}

@@ -1,5 +1,5 @@
 -- The steps of one read, by the changes of its cell.
-use Rattle.std.proofs.Common.{◌≡◌, ℕ, suc, ◌<◌, ◌≤◌, ◌+◌, ◌-◌, [], ◌∷◌, ◌++◌, length, get_or, slice_set, Bool, true, false, nat_eq, nat_lt, Option, Some, None, ⊎_elim, sym, ap, subst, refl, ◌∙◌, arith, eqb-true, eq-eqb, true≢false, if◌then◌else◌, ◌&&◌}
+use Rattle.std.proofs.Common.{◌≡◌, ℕ, suc, ◌<◌, ◌≤◌, ◌+◌, [], ◌∷◌, ◌++◌, length, get_or, slice_set, Bool, true, false, nat_eq, nat_lt, Option, Some, None, ⊎_elim, sym, ap, subst, refl, ◌∙◌, arith, eqb-true, eq-eqb, true≢false, if◌then◌else◌, ◌&&◌}
 use Rattle.std.proofs.Math.Seq.{get_or-append_seam}
 use Rattle.runs.proofs.Putting.{same_or_not}
 use Rattle.lz_proto.specs.declared.state.State.{State}

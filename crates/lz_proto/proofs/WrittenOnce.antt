@@ -1,5 +1,5 @@
 -- A cell is written once.
-use Rattle.std.proofs.Common.{◌≡◌, ◌≢◌, ℕ, ◌<◌, ◌≤◌, ◌+◌, List, [], ◌∷◌, length, Bool, true, false, Option, Some, None, ◌⊎◌, inl, inr, sym, ap, subst, refl, ◌∙◌, arith, eqb-true, eq-eqb, true≢false, if◌then◌else◌}
+use Rattle.std.proofs.Common.{◌≡◌, ◌≢◌, ℕ, ◌<◌, ◌≤◌, ◌+◌, List, [], ◌∷◌, length, Bool, true, false, Option, Some, ◌⊎◌, inl, inr, sym, ap, subst, refl, ◌∙◌, arith, eqb-true, eq-eqb, true≢false, if◌then◌else◌}
 use Rattle.std.specs.List.{All}
 use Rattle.std.proofs.lemmas.List.Elements.{All-head, All-tail}
 use Rattle.runs.proofs.Putting.{same_or_not}
@@ -10,11 +10,11 @@ use Rattle.lz_proto.specs.declared.once.Once.TheVariants as once
 use Rattle.lz_proto.specs.declared.act.Act.{Act}
 use Rattle.lz_proto.specs.declared.act.Act.TheVariants.{Read, Return, Throw, Go}
 use Rattle.lz_proto.specs.Protocol.{Protocol, position}
-use Rattle.lz_proto.specs.Steps.{Outcome, Moves, Waits, Refuses, goes, finish, acted}
-use Rattle.lz_proto.specs.Once.{is_inside, abstract_of, Task, Rests, Reads, Runs, Ends, Tells, Meets, task, Rule, enters, gives, meets, returns, throws, stores, fails, Shows, silent, begins, moves}
+use Rattle.lz_proto.specs.Steps.{Outcome, Moves, Waits, Refuses, finish, acted}
+use Rattle.lz_proto.specs.Once.{is_inside, abstract_of, Task, Runs, Ends, task, Rule, enters, gives, meets, returns, throws, stores, fails, Shows, silent, begins, moves}
 use Rattle.lz_proto.specs.Kept.{IsKept}
 use Rattle.lz_proto.specs.Promises.{after, ran, is_return, returned}
-use Rattle.lz_proto.proofs.Acting.{act_keeps, rests_outside, unmoved, number}
+use Rattle.lz_proto.proofs.Acting.{act_keeps, rests_outside, number}
 use Rattle.lz_proto.proofs.Following.{running_of}
 use Rattle.lz_proto.proofs.Rules.{act_follows}
 use Rattle.lz_proto.proofs.Serving.{values_stay}

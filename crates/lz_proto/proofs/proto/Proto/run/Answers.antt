@@ -1,4 +1,4 @@
-use Rattle.std.proofs.Common.{◌≡◌, ◌≤◌, ◌<◌, ℕ, length, drop, [], ◌∷◌, arith, subst, sym, ap}
+use Rattle.std.proofs.Common.{◌≡◌, ◌≤◌, drop, [], arith, subst, sym}
 use Rattle.std.proofs.lemmas.List.{drop_more}
 use Rattle.std.proofs.Math.ListN.{drop_of_length-le}
 use Rattle.lz_proto.specs.Promises.{IsApart, count_of}
@@ -13,8 +13,7 @@ overflow_add-made c =
 pub loop-given-preserved : goal.loop-given-preserved
 loop-given-preserved c =
     let one : count_of c.step.result ≤ 1 = at_most_one c.step.result in
-    let was = subst (λ rest. Midway c.args.self.now c.args.acts.now c.loop-given.self rest c.loop-given.made) (drop_more c.args.acts.now c.loop-given.given-index _ c.loop-given-test.true) c.loop-given.invariant.0 in
-    (
+    let was = subst (λ rest. Midway c.args.self.now c.args.acts.now c.loop-given.self rest c.loop-given.made) (drop_more c.args.acts.now c.loop-given.given-index _ c.loop-given-test.true) c.loop-given.invariant.0 in (
       rw c.count-made.ensures (goes_on c.args.self.now c.args.acts.now c.loop-given.self _ _ _ c.loop-given.made was c.step.result _ c.step.ensures),
       omega (arith, c.loop-given.invariant.1, c.count-made.ensures, one),
     )
