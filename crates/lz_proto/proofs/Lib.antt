@@ -17,3 +17,4 @@ pub mod Refusing
 pub mod Midway
 pub mod CanGo
 pub mod WrittenOnce
+pub mod Answering

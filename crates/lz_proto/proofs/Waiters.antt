@@ -11,7 +11,7 @@ use Rattle.lz_proto.specs.Protocol.{Protocol, content, position, thread, is_open
 use Rattle.lz_proto.specs.Steps.{Outcome, Waits, Refuses, has_ended, marks, claims, places, sleeps, stores, takes, swaps, next, read, finish, acted}
 use Rattle.lz_proto.specs.Once.{abstract_of}
 use Rattle.lz_proto.specs.Kept.{Stage, Mine, Set, Going, Over, IsShared, is_over, Keeps, IsRun, Holds}
-use Rattle.lz_proto.specs.Promises.{WaitsWell}
+use Rattle.lz_proto.specs.Promises.{WaitsWell, IsBarred}
 use Rattle.lz_proto.proofs.Acting.{number}
 use Rattle.lz_proto.proofs.Following.{running_of}
 
@@ -107,6 +107,7 @@ module _ (p : Protocol) (stage : ℕ → Stage) (h : Holds p stage) (who : ℕ) 
   act_waits Throw w = finish_waits (position p who) None w
   act_waits Go w = next_waits (position p who) refl w
 
--- and waits wherever it stands at a closed latch
-pub closed_waits : (p : Protocol) (who c latch : ℕ) → position p who ≡ Sleep c latch → is_open p latch ≡ false → acted p who Go ≡ Waits
-closed_waits p who c latch at closed = ap (next p who) at ∙ ap (sleeps p who c) closed
+-- and waits wherever it goes on at a closed latch
+pub barred_waits : (p : Protocol) (who : ℕ) (act : Act) → IsBarred p who act → acted p who act ≡ Waits
+barred_waits p who act barred =
+    ap (acted p who) barred.0 ∙ ap (next p who) barred.3 ∙ ap (sleeps p who barred.1) barred.4

@@ -93,6 +93,10 @@ abbrev pub WaitsWell : Protocol → ℕ → Type 0
 WaitsWell p who =
     (c : ℕ) × (latch : ℕ) × (position p who ≡ Sleep c latch) × (is_open p latch ≡ false) × (((u : ℕ) × (abstract_of p c ≡ once.Running u) × (named p latch ≡ thread p u)) ⊎ ((u : ℕ) × (r : Option ℕ) × (position p u ≡ Open latch r)))
 
+-- it goes on at a closed latch
+abbrev pub IsBarred : Protocol → ℕ → Act → Type 0
+IsBarred p who act = (act ≡ Go) × (c : ℕ) × (latch : ℕ) × (position p who ≡ Sleep c latch) × (is_open p latch ≡ false)
+
 -- an accessor of the same thread runs the cell's initialiser
 abbrev pub IsOwn : Protocol → ℕ → ℕ → Type 0
 IsOwn p who c = (u : ℕ) × (abstract_of p c ≡ once.Running u) × (thread p u ≡ thread p who)

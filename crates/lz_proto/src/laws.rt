@@ -1,6 +1,6 @@
 //! What holds of every step.
 
-ghost use Rattle.std.specs.Prelude.{◌≡◌, ◌<◌, ◌≤◌, ◌+◌, ◌*◌, ◌⊎◌, ◌∷◌, ℕ, List, true, false, Option, length};
+ghost use Rattle.std.specs.Prelude.{◌≡◌, ◌<◌, ◌≤◌, ◌+◌, ◌*◌, ◌⊎◌, ◌∷◌, ℕ, List, true, Option, length};
 ghost use Rattle.std.specs.List.{All};
 ghost use Rattle.lz_proto.specs.declared.act.Act.{Act};
 ghost use Rattle.lz_proto.specs.declared.act.Act.TheVariants.{Read, Go};
@@ -9,7 +9,7 @@ ghost use Rattle.lz_proto.specs.Protocol.{Protocol, position, is_open};
 ghost use Rattle.lz_proto.specs.Steps.{Moves, Waits, Refuses, acted, goes};
 ghost use Rattle.lz_proto.specs.Once.{Follows, abstract_of};
 ghost use Rattle.lz_proto.specs.Kept.{IsKept};
-ghost use Rattle.lz_proto.specs.Promises.{WaitsWell, IsOneRead, IsNew, IsOwn, IsApart, IsWrong, IsFull, CanGo, ran, steps, changes, returned};
+ghost use Rattle.lz_proto.specs.Promises.{WaitsWell, IsBarred, IsOneRead, IsNew, IsOwn, IsApart, IsWrong, IsFull, CanGo, ran, steps, changes, returned};
 ghost use Rattle.lz_proto.specs.declared.once.Once.TheVariants as once;
 
 /// A new state keeps what every state keeps, and nobody in it awaits its own thread.
@@ -40,7 +40,7 @@ pub fn cycles()
 /// No waiter is lost: an accessor waits exactly where it stands at a closed latch, and somebody is to open that.
 pub fn waiting()
     ensures only { (p : Protocol) → IsKept p → (who : ℕ) → (act : Act) → acted p who act ≡ Waits → WaitsWell p who }
-    ensures all { (p : Protocol) → (who c latch : ℕ) → position p who ≡ pos.Sleep c latch → is_open p latch ≡ false → acted p who Go ≡ Waits }
+    ensures all { (p : Protocol) → (who : ℕ) → (act : Act) → IsBarred p who act → acted p who act ≡ Waits }
 {}
 
 /// Whom a waiter awaits can go on, where it isn't in its initialiser; it opens the latch, which stays open, and lets the waiter go.

@@ -14,7 +14,7 @@ pub loop-given-preserved : goal.loop-given-preserved
 loop-given-preserved c =
     let one : count_of c.step.result ≤ 1 = at_most_one c.step.result in
     let was = subst (λ rest. Midway c.args.self.now c.args.acts.now c.loop-given.self rest c.loop-given.made) (drop_more c.args.acts.now c.loop-given.given-index _ c.loop-given-test.true) c.loop-given.invariant.0 in (
-      rw c.count-made.ensures (goes_on c.args.self.now c.args.acts.now c.loop-given.self _ _ _ c.loop-given.made was c.step.result _ c.step.ensures),
+      rw c.count-made.ensures (goes_on c.args.self.now c.args.acts.now c.loop-given.self _ _ _ c.loop-given.made was c.step.result _ c.step.ensures.done),
       omega (arith, c.loop-given.invariant.1, c.count-made.ensures, one),
     )
 
