@@ -47,7 +47,7 @@ module _ (p q : Protocol) (kept : IsKept p) (who : ℕ) (within : who < length p
   answers_moved e = act_follows p kept.0 kept.1 who within act q (moved_of answer (acted p who act) p q done e)
 
   pub answers_waits : answer ≡ stepped.Waits → WaitsWell p who
-  answers_waits e = act_waits p kept.0 kept.1 who act (waits_of answer (acted p who act) p q done e)
+  answers_waits e = act_waits p kept.0 kept.1 kept.2 who act (waits_of answer (acted p who act) p q done e)
 
   pub barred_answers : IsBarred p who act → answer ≡ stepped.Waits
   barred_answers barred = wait_is answer (acted p who act) p q done (barred_waits p who act barred)

@@ -8,11 +8,10 @@ use Rattle.lz_proto.specs.declared.act.Act.{Act}
 use Rattle.lz_proto.specs.Protocol.{Protocol}
 use Rattle.lz_proto.specs.Steps.{Outcome, Moves, Waits, Refuses, acted}
 use Rattle.lz_proto.specs.Kept.{IsKept}
-use Rattle.lz_proto.specs.Promises.{Answers, after, ran, moves, if_moved, count_of, AllFollow, IsApart}
-use Rattle.lz_proto.proofs.Acting.{act_keeps}
+use Rattle.lz_proto.specs.Promises.{Answers, after, ran, moves, if_moved, count_of, AllFollow}
+use Rattle.lz_proto.proofs.Own.{step_keeps}
 use Rattle.lz_proto.proofs.Rules.{act_follows}
 use Rattle.lz_proto.proofs.Standing.{as_many, room_stays}
-use Rattle.lz_proto.proofs.Own.{apart_stays}
 
 -- in the midst of a list of acts: where it will lead, how many moved, and what the rest finds
 pub record Midway (p : Protocol) (acts : List (ℕ × Act)) (q : Protocol) (rest : List (ℕ × Act)) (made : ℕ) : Type 0 where
@@ -65,24 +64,6 @@ all_follow (a ∷ acts) p kept there = (
     others = All-tail (λ a. a.0 < length p.at) a acts there
 
     go : ((q : Protocol) → IsKept q → All (λ a. a.0 < length q.at) acts → AllFollow q acts) → (o : Outcome) → acted p a.0 a.1 ≡ o → AllFollow (after p o) acts
-    go rec (Moves q) e = rec q (act_keeps p kept.0 kept.1 a.0 here a.1 q e) (subst (λ n. All (λ a. a.0 < n) acts) (sym (as_many p a.0 a.1 q e)) others)
+    go rec (Moves q) e = rec q (step_keeps p q kept a.0 here a.1 e) (subst (λ n. All (λ a. a.0 < n) acts) (sym (as_many p a.0 a.1 q e)) others)
     go rec Waits e = rec p kept others
     go rec Refuses e = rec p kept others
-
--- nobody comes to await a latch of its own thread
-pub ran_apart : (acts : List (ℕ × Act)) (p : Protocol) → IsKept p → All (λ a. a.0 < length p.at) acts → IsApart p → IsApart (ran p acts)
-unfolding ran
-ran_apart [] p kept there apart = apart
-ran_apart (a ∷ acts) p kept there apart = go (λ q k t o. ran_apart acts q k t o) (acted p a.0 a.1) refl
-  where
-    here : a.0 < length p.at
-    here = All-head (λ a. a.0 < length p.at) a acts there
-
-    others : All (λ a. a.0 < length p.at) acts
-    others = All-tail (λ a. a.0 < length p.at) a acts there
-
-    go : ((q : Protocol) → IsKept q → All (λ a. a.0 < length q.at) acts → IsApart q → IsApart (ran q acts)) → (o : Outcome) → acted p a.0 a.1 ≡ o → IsApart (ran (after p o) acts)
-    go rec (Moves q) e =
-        rec q (act_keeps p kept.0 kept.1 a.0 here a.1 q e) (subst (λ n. All (λ a. a.0 < n) acts) (sym (as_many p a.0 a.1 q e)) others) (apart_stays p q kept a.0 here a.1 e apart)
-    go rec Waits e = rec p kept others apart
-    go rec Refuses e = rec p kept others apart

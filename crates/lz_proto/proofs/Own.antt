@@ -1,10 +1,11 @@
 -- An accessor whose own thread runs the cell throws LazyCycle, and awaits no latch of its thread.
-use Rattle.std.proofs.Common.{◌≡◌, ◌≢◌, ℕ, ◌<◌, List, length, Bool, true, false, nat_eq, ◌⊎◌, inl, inr, sym, ap, subst, refl, ◌∙◌, eqb-true, eq-eqb, true≢false, if◌then◌else◌}
+use Rattle.std.proofs.Common.{◌≡◌, ◌≢◌, ℕ, ◌<◌, List, [], ◌∷◌, length, get_or, slice_set, Bool, true, false, nat_eq, ◌⊎◌, inl, inr, sym, ap, subst, refl, ◌∙◌, eqb-true, eq-eqb, true≢false, if◌then◌else◌}
+use Rattle.std.proofs.lemmas.List.{get_or-set_same, get_or-set_other, get_or_append_left}
 use Rattle.runs.proofs.Putting.{same_or_not}
 use Rattle.lz_proto.specs.declared.state.State.{State}
 use Rattle.lz_proto.specs.declared.state.State.TheVariants.{Empty, Evaluating, Waiting, Done}
 use Rattle.lz_proto.specs.declared.pos.Pos.{Pos}
-use Rattle.lz_proto.specs.declared.pos.Pos.TheVariants.{Look, Mark, Sleep, Cycle}
+use Rattle.lz_proto.specs.declared.pos.Pos.TheVariants.{Look, Mark, Sleep, Cycle, Idle, Place}
 use Rattle.lz_proto.specs.declared.once.Once.{Once}
 use Rattle.lz_proto.specs.declared.once.Once.TheVariants as once
 use Rattle.lz_proto.specs.declared.act.Act.{Act}
@@ -12,12 +13,12 @@ use Rattle.lz_proto.specs.declared.act.Act.TheVariants.{Go}
 use Rattle.lz_proto.specs.Protocol.{Protocol, content, position, thread, named}
 use Rattle.lz_proto.specs.Steps.{Moves, acted, goes, looked, next}
 use Rattle.lz_proto.specs.Once.{once_of}
-use Rattle.lz_proto.specs.Kept.{Stage, Keeps, IsRunBy, IsRun, Holds, IsKept}
-use Rattle.lz_proto.specs.Promises.{IsOwn, IsApart, IsNew}
-use Rattle.lz_proto.proofs.Acting.{waits_for_made}
+use Rattle.lz_proto.specs.Kept.{Stage, Keeps, IsRunBy, IsRun, Holds, IsHeld, IsApart, IsKept}
+use Rattle.lz_proto.specs.Promises.{IsOwn}
+use Rattle.lz_proto.proofs.Latches.{made_for}
+use Rattle.lz_proto.proofs.Acting.{waits_for_made, act_keeps}
 use Rattle.lz_proto.proofs.Following.{running_of}
-use Rattle.lz_proto.proofs.Standing.{found, others_stand, threads_stay, names_stay}
-use Rattle.lz_proto.proofs.New.{new_stands}
+use Rattle.lz_proto.proofs.Standing.{is_found, found, others_stand, threads_stay, names_stay}
 
 abbrev IsCycle : Pos → Type 0
 IsCycle Cycle = Unit {0}
@@ -100,19 +101,26 @@ module _ (p q : Protocol) (kept : IsKept p) (who : ℕ) (within : who < length p
       thread_in : List ℕ → ℕ → ℕ
       thread_in threads u = thread (record p { threads = threads }) u
 
-  pub apart_stays : IsApart p → IsApart q
-  apart_stays apart u c latch asleep own = go (same_or_not u who)
+  apart_stays : IsApart q
+  apart_stays u c latch asleep own = go (same_or_not u who)
     where
       go : (u ≡ who) ⊎ (u ≢ who) → ⊥
       go (inr ne) =
           let before : position p u ≡ Sleep c latch = sym (others_stand p who act q moved u ne) ∙ asleep in
           let made = (subst (Keeps p.cells (length p.opened) kept.0 u) before (kept.1.keeps u)).1 in
-          apart u c latch before (sym (stays_named latch made) ∙ own ∙ stays_of u)
+          kept.2 u c latch before (sym (stays_named latch made) ∙ own ∙ stays_of u)
       go (inl same) =
           let here = found p who act q within moved (Sleep c latch) (subst (λ u. position q u ≡ Sleep c latch) same asleep) refl in
           let was = found_asleep p who here.0 c latch (content p here.0) here.2 in
           let made = waits_for_made p kept.0 kept.1 here.0 latch was.0 in
           was.1 (sym (stays_named latch made) ∙ own ∙ stays_of u ∙ ap (thread p) same)
+
+  -- each step keeps what every state keeps
+  pub whole : IsHeld q → IsKept q
+  whole held = (held.0, held.1, apart_stays)
+
+  pub step_keeps : IsKept q
+  step_keeps = whole (act_keeps p kept.0 kept.1 who within act q moved)
 
   pub cycle_found : position q who ≡ Cycle → (c : ℕ) × (position p who ≡ Look c) × IsOwn p who c
   cycle_found at =
@@ -122,6 +130,32 @@ module _ (p q : Protocol) (kept : IsKept p) (who : ℕ) (within : who < length p
 pub cycle_thrown : (p : Protocol) → IsKept p → (who c : ℕ) → position p who ≡ Look c → IsOwn p who c → acted p who Go ≡ goes p who Cycle
 cycle_thrown p kept who c at own = ap (next p who) at ∙ ap (goes p who) (own_cycles p kept.0 kept.1 who c (content p c) refl own)
 
-pub new_apart : (n : ℕ) (threads : List ℕ) (p : Protocol) → IsNew n threads p → IsApart p
-new_apart n threads p new who c latch asleep own =
-    subst IsAsleep (sym asleep ∙ ap (λ p. position p who) new ∙ new_stands (length threads) who) tt
+-- a state in which no accessor but this one moved, and it isn't asleep
+module _ (p : Protocol) (kept : IsKept p) (who : ℕ) (within : who < length p.at) (to : Pos) (awake : is_found to ≡ false) where
+  near_apart : (q : Protocol) → q.at ≡ slice_set p.at who to → ((u : ℕ) → thread q u ≡ thread p u) → ((latch : ℕ) → latch < length p.opened → named q latch ≡ named p latch) → IsApart q
+  near_apart q at threads names u c latch asleep own = go (same_or_not u who)
+    where
+      go : (u ≡ who) ⊎ (u ≢ who) → ⊥
+      go (inl same) =
+          let there : to ≡ Sleep c latch = sym (ap (λ u. get_or (slice_set p.at who to) u Idle) same ∙ get_or-set_same p.at who to Idle within) ∙ ap (λ at. get_or at u Idle) (sym at) ∙ asleep in
+          true≢false (sym (ap is_found there) ∙ awake)
+      go (inr ne) =
+          let before : position p u ≡ Sleep c latch = sym (get_or-set_other p.at who u to Idle ne) ∙ ap (λ at. get_or at u Idle) (sym at) ∙ asleep in
+          let made = (subst (Keeps p.cells (length p.opened) kept.0 u) before (kept.1.keeps u)).1 in
+          kept.2 u c latch before (sym (names latch made) ∙ own ∙ threads u)
+
+  pub stands_kept : IsHeld (record p { at = slice_set p.at who to }) → IsKept (record p { at = slice_set p.at who to })
+  stands_kept held = (held.0, held.1, near_apart (record p { at = slice_set p.at who to }) refl (λ u. refl) (λ latch made. refl))
+
+  pub writes_kept : (c : ℕ) (new : State) → IsHeld (record p { cells = slice_set p.cells c new; at = slice_set p.at who to }) → IsKept (record p { cells = slice_set p.cells c new; at = slice_set p.at who to })
+  writes_kept c new held = (held.0, held.1, near_apart (record p { cells = slice_set p.cells c new; at = slice_set p.at who to }) refl (λ u. refl) (λ latch made. refl))
+
+  pub opens_kept : (latch : ℕ) → IsHeld (record p { opened = slice_set p.opened latch true; at = slice_set p.at who to }) → IsKept (record p { opened = slice_set p.opened latch true; at = slice_set p.at who to })
+  opens_kept latch held = (held.0, held.1, near_apart (record p { opened = slice_set p.opened latch true; at = slice_set p.at who to }) refl (λ u. refl) (λ latch made. refl))
+
+pub makes_kept : (p : Protocol) → IsKept p → (who c t : ℕ) → who < length p.at → IsHeld (made_for p who c t) → IsKept (made_for p who c t)
+makes_kept p kept who c t within held = (
+  held.0,
+  held.1,
+  near_apart p kept who within (Place c (length p.opened)) refl (made_for p who c t) refl (λ u. refl) (λ latch made. get_or_append_left p.owner (t ∷ []) 0 latch (subst (λ n. latch < n) (sym kept.1.owners) made)),
+)

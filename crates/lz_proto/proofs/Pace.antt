@@ -16,7 +16,8 @@ use Rattle.lz_proto.specs.Once.{abstract_of, task}
 use Rattle.lz_proto.specs.Kept.{Stage, Mine, is_over, Keeps, IsKept}
 use Rattle.lz_proto.specs.Promises.{after, ran, IsOneRead, steps, changes, differ, if_moved}
 use Rattle.lz_proto.proofs.Latches.{made}
-use Rattle.lz_proto.proofs.Acting.{act_keeps, moves_same, unmoved}
+use Rattle.lz_proto.proofs.Acting.{moves_same, unmoved}
+use Rattle.lz_proto.proofs.Own.{step_keeps}
 use Rattle.lz_proto.proofs.Standing.{others_stand, as_many, names_stay}
 use Rattle.lz_proto.proofs.Serving.{Serves, own_serves, other_serves, got_is_done}
 use Rattle.lz_proto.proofs.Pacing.{rank, rank_small, own_falls, Kin, same, placed, changed, act_kin}
@@ -134,11 +135,11 @@ paced who c (a ∷ acts) p kept one serves = go (λ q k o s. paced who c acts q 
   where
     go : ((q : Protocol) → IsKept q → IsOneRead (length q.at) who acts → Serves c (abstract_of q c) (task (position q who)) → steps who q acts ≤ rank q (content q c) (position q who) + 9 * changes c q acts) → (o : Outcome) → acted p a.0 a.1 ≡ o → (a.0 ≡ who) ⊎ (a.0 ≢ who) → (if nat_eq a.0 who then if_moved o else 0) + steps who (after p o) acts ≤ rank p (content p c) (position p who) + 9 * (differ (abstract_of p c) (abstract_of (after p o) c) + changes c (after p o) acts)
     go rec (Moves q) e (inl is_who) =
-        let next : steps who q acts ≤ rank q (content q c) (position q who) + 9 * changes c q acts = rec q (act_keeps p kept.0 kept.1 a.0 one.0 a.1 q e) (subst (λ n. IsOneRead n who acts) (sym (as_many p a.0 a.1 q e)) one.2) (subst (λ u. Serves c (abstract_of q c) (task (position q u))) is_who (own_serves p kept a.0 one.0 a.1 q e (one.1 is_who) c (subst (λ u. Serves c (abstract_of p c) (task (position p u))) (sym is_who) serves))) in
+        let next : steps who q acts ≤ rank q (content q c) (position q who) + 9 * changes c q acts = rec q (step_keeps p q kept a.0 one.0 a.1 e) (subst (λ n. IsOneRead n who acts) (sym (as_many p a.0 a.1 q e)) one.2) (subst (λ u. Serves c (abstract_of q c) (task (position q u))) is_who (own_serves p kept a.0 one.0 a.1 q e (one.1 is_who) c (subst (λ u. Serves c (abstract_of p c) (task (position p u))) (sym is_who) serves))) in
         let lower : rank q (content q c) (position q who) < rank p (content p c) (position p who) = own_rank p kept a one.0 q e who c is_who (one.0, one.1, tt) serves in
         rw (eq-eqb a.0 who is_who) (omega arith)
     go rec (Moves q) e (inr ne) =
-        let next : steps who q acts ≤ rank q (content q c) (position q who) + 9 * changes c q acts = rec q (act_keeps p kept.0 kept.1 a.0 one.0 a.1 q e) (subst (λ n. IsOneRead n who acts) (sym (as_many p a.0 a.1 q e)) one.2) (other_serves p kept a.0 one.0 a.1 q e who (λ e. ne (sym e)) c serves) in
+        let next : steps who q acts ≤ rank q (content q c) (position q who) + 9 * changes c q acts = rec q (step_keeps p q kept a.0 one.0 a.1 e) (subst (λ n. IsOneRead n who acts) (sym (as_many p a.0 a.1 q e)) one.2) (other_serves p kept a.0 one.0 a.1 q e who (λ e. ne (sym e)) c serves) in
         let low : rank q (content q c) (position q who) ≤ rank p (content p c) (position p who) + 9 * differ (abstract_of p c) (abstract_of q c) = other_rank p kept a one.0 q e who c ne in
         rw (ne_eqb a.0 who ne) (omega arith)
     go rec Waits e s = let next = rec p kept one.2 serves in rw (nothing (nat_eq a.0 who)) (omega arith)
@@ -158,7 +159,7 @@ read_paced who c acts p q kept within e one = go (acted p who (Read c)) e
   where
     bound : steps who q acts ≤ 9 + 9 * changes c q acts
     bound =
-        let most = paced who c acts q (act_keeps p kept.0 kept.1 who within (Read c) q e) (subst (λ n. IsOneRead n who acts) (sym (as_many p who (Read c) q e)) one) (subst (λ x. Serves c (abstract_of q c) (task x)) (sym (entered p q who c within e)) refl) in
+        let most = paced who c acts q (step_keeps p q kept who within (Read c) e) (subst (λ n. IsOneRead n who acts) (sym (as_many p who (Read c) q e)) one) (subst (λ x. Serves c (abstract_of q c) (task x)) (sym (entered p q who c within e)) refl) in
         let small : rank q (content q c) (position q who) ≤ 9 = rank_small q (content q c) (position q who) in
         omega arith
 
@@ -167,4 +168,4 @@ read_paced who c acts p q kept within e one = go (acted p who (Read c)) e
 
 pub read_value : (who c : ℕ) (acts : List (ℕ × Act)) (p q : Protocol) → IsKept p → who < length p.at → acted p who (Read c) ≡ Moves q → IsOneRead (length p.at) who acts → (v : ℕ) → position (ran q acts) who ≡ Got v → abstract_of (ran q acts) c ≡ once.Done v
 read_value who c acts p q kept within e one =
-    got_is_done who c acts q (act_keeps p kept.0 kept.1 who within (Read c) q e) (subst (λ n. IsOneRead n who acts) (sym (as_many p who (Read c) q e)) one) (entered p q who c within e)
+    got_is_done who c acts q (step_keeps p q kept who within (Read c) e) (subst (λ n. IsOneRead n who acts) (sym (as_many p who (Read c) q e)) one) (entered p q who c within e)

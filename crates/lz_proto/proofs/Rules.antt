@@ -12,7 +12,7 @@ use Rattle.lz_proto.specs.Protocol.{Protocol, content, position, thread, is_open
 use Rattle.lz_proto.specs.Steps.{Outcome, Moves, Waits, Refuses, result_of, ended, has_ended, goes, looked, claims, places, sleeps, stores, takes, swaps, next, read, finish, acted}
 use Rattle.lz_proto.specs.Once.{is_inside, abstract_of, once_of, Ends, Tells, task, Rule, enters, gives, meets, returns, throws, fails, Follows, Shows, silent, begins, moves, IsExchange, claim, store, swap, Runs}
 use Rattle.lz_proto.specs.Once.{stores as stores_value}
-use Rattle.lz_proto.specs.Kept.{Stage, IsRunBy, IsRun, Holds, IsKept}
+use Rattle.lz_proto.specs.Kept.{Stage, IsRunBy, IsRun, Holds, IsHeld}
 use Rattle.lz_proto.proofs.Kept.{inside_same, moved_there, written_there, written_other}
 use Rattle.runs.proofs.Putting.{everywhere}
 use Rattle.lz_proto.proofs.Writing.{ended_outside}
@@ -29,7 +29,7 @@ module _ (p : Protocol) (stage : ℕ → Stage) (h : Holds p stage) (who : ℕ) 
   refuses q e = absurd (unmoved Refuses q (omega arith) e)
 
   -- a state behind a step in which cells are alike and the same accessors are inside
-  module _ (act : Act) (pos to : Pos) (at : position p who ≡ pos) (q : Protocol) (kept : IsKept q) (moved : (u : ℕ) → position q u ≡ get_or (slice_set p.at who to) u Idle) where
+  module _ (act : Act) (pos to : Pos) (at : position p who ≡ pos) (q : Protocol) (kept : IsHeld q) (moved : (u : ℕ) → position q u ≡ get_or (slice_set p.at who to) u Idle) where
     pub stay : ((d : ℕ) → is_inside d to ≡ is_inside d pos) → ((d : ℕ) → Alike (content p d) (content q d)) → (d : ℕ) → abstract_of q d ≡ abstract_of p d
     stay inside alike d =
         once_stays p q stage kept.0 h kept.1 d (content p d) (content q d) refl refl (alike d) (λ u. ap (is_inside d) (moved u) ∙ inside_same p stage h who within pos to at d (inside d) u)
@@ -78,7 +78,7 @@ module _ (p : Protocol) (stage : ℕ → Stage) (h : Holds p stage) (who : ℕ) 
       go : (a b : Bool) → has_ended pos ≡ a → nat_lt c (length p.cells) ≡ b → Ruled (Read c) (if a && b then goes p who (Look c) else Refuses)
       go true true e n = λ q m. subst (Shows p who (Read c)) (moves_same m) (
           let to : Protocol = record p { at = slice_set p.at who (Look c) } in
-          let kept : IsKept to = act_keeps p stage h who within (Read c) to (is ∙ rw (e, n) refl) in
+          let kept : IsHeld to = act_keeps p stage h who within (Read c) to (is ∙ rw (e, n) refl) in
           begins c refl (stay (Read c) pos (Look c) at to kept (λ u. refl) (λ d. sym (rests_outside pos e d)) (λ d. alike_self (content p d))) (ap has_ended at ∙ e) (ap task (moved_there p stage h who within pos (Look c) at))
           )
       go true false e n = refuses
@@ -126,7 +126,7 @@ module _ (p : Protocol) (stage : ℕ → Stage) (h : Holds p stage) (who : ℕ) 
   claim_follows c at Empty held is q m = subst (Shows p who Go) (moves_same m) (
       let new : State = Evaluating (thread p who) in
       let to : Protocol = record p { cells = slice_set p.cells c new; at = slice_set p.at who (Body c) } in
-      let kept : IsKept to = act_keeps p stage h who within Go to is in
+      let kept : IsHeld to = act_keeps p stage h who within Go to is in
       wrote Go (Claim c) (Body c) at to kept (λ u. refl) c (relied p stage h who within (Claim c) at) new (λ d. refl) (λ d ne. ne_eqb c d (λ e. ne (sym e))) once.Empty (once.Running who) (idle_empty c held) (running_of to kept.0 kept.1 c who (ap (is_inside c) (moved_there p stage h who within (Claim c) (Body c) at) ∙ eq-eqb c c refl)) enters claim
       )
   claim_follows c at (Evaluating t) held is q m = passes Go (Claim c) (Look c) refl at is (λ d. refl) refl q m
@@ -134,7 +134,7 @@ module _ (p : Protocol) (stage : ℕ → Stage) (h : Holds p stage) (who : ℕ) 
   claim_follows c at (Done v) held is q m = passes Go (Claim c) (Look c) refl at is (λ d. refl) refl q m
 
   -- a result is written where its accessor runs the cell
-  result_follows : (c : ℕ) (r : Option ℕ) (pos to : Pos) (at : position p who ≡ pos) → c < length p.cells → is_inside c pos ≡ true → task pos ≡ Ends c r → task to ≡ Tells r → ((d : ℕ) → d ≢ c → is_inside d to ≡ is_inside d pos) → IsExchange c pos → (kept : IsKept (record p { cells = slice_set p.cells c (result_of r); at = slice_set p.at who to })) → Shows p who Go (record p { cells = slice_set p.cells c (result_of r); at = slice_set p.at who to })
+  result_follows : (c : ℕ) (r : Option ℕ) (pos to : Pos) (at : position p who ≡ pos) → c < length p.cells → is_inside c pos ≡ true → task pos ≡ Ends c r → task to ≡ Tells r → ((d : ℕ) → d ≢ c → is_inside d to ≡ is_inside d pos) → IsExchange c pos → (kept : IsHeld (record p { cells = slice_set p.cells c (result_of r); at = slice_set p.at who to })) → Shows p who Go (record p { cells = slice_set p.cells c (result_of r); at = slice_set p.at who to })
   result_follows c (Some v) pos to at here inside before behind others exchange kept =
       wrote Go pos to at (record p { cells = slice_set p.cells c (Done v); at = slice_set p.at who to }) kept (λ u. refl) c here (Done v) (λ d. refl) others (once.Running who) (once.Done v) (running_of p stage h c who (ap (is_inside c) at ∙ inside)) (ap (once_of (record p { cells = slice_set p.cells c (Done v); at = slice_set p.at who to }) c) (written_there p stage h who within pos to at c here (Done v))) (rw (before, behind) (stores_value v)) exchange
   result_follows c None pos to at here inside before behind others exchange kept =

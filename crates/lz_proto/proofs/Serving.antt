@@ -10,7 +10,7 @@ use Rattle.lz_proto.specs.Steps.{Outcome, Moves, Waits, Refuses, acted}
 use Rattle.lz_proto.specs.Once.{abstract_of, Task, Rests, Reads, Runs, Ends, Tells, Meets, task, Rule, enters, gives, meets, returns, throws, stores, fails, Shows, silent, begins, moves}
 use Rattle.lz_proto.specs.Kept.{IsKept}
 use Rattle.lz_proto.specs.Promises.{after, ran, IsRead, IsOneRead}
-use Rattle.lz_proto.proofs.Acting.{act_keeps}
+use Rattle.lz_proto.proofs.Own.{step_keeps}
 use Rattle.lz_proto.proofs.Rules.{act_follows}
 use Rattle.lz_proto.proofs.Standing.{others_stand, as_many}
 
@@ -110,7 +110,7 @@ ran_serves who c (a ∷ acts) p kept one h = go (λ q k o s. ran_serves who c ac
   where
     go : ((q : Protocol) → IsKept q → IsOneRead (length q.at) who acts → Serves c (abstract_of q c) (task (position q who)) → Serves c (abstract_of (ran q acts) c) (task (position (ran q acts) who))) → (o : Outcome) → acted p a.0 a.1 ≡ o → Serves c (abstract_of (ran (after p o) acts) c) (task (position (ran (after p o) acts) who))
     go rec (Moves q) e =
-        rec q (act_keeps p kept.0 kept.1 a.0 one.0 a.1 q e) (subst (λ n. IsOneRead n who acts) (sym (as_many p a.0 a.1 q e)) one.2)
+        rec q (step_keeps p q kept a.0 one.0 a.1 e) (subst (λ n. IsOneRead n who acts) (sym (as_many p a.0 a.1 q e)) one.2)
         (⊎_elim
         (λ same. subst (λ u. Serves c (abstract_of q c) (task (position q u))) same (own_serves p kept a.0 one.0 a.1 q e (one.1 same) c (subst (λ u. Serves c (abstract_of p c) (task (position p u))) (sym same) h)))
         (λ ne. other_serves p kept a.0 one.0 a.1 q e who (λ same. ne (sym same)) c h)

@@ -24,6 +24,10 @@ IsFound p who to = (c : ℕ) × (position p who ≡ Look c) × (looked p who c (
 unfound : {A : Type 0} {b : Bool} → b ≡ false → b ≡ true → A
 unfound e is = absurd (true≢false (sym is ∙ e))
 
+pub ended_unfound : (r : Option ℕ) → is_found (ended r) ≡ false
+ended_unfound (Some v) = refl
+ended_unfound None = refl
+
 -- a latch that is opened is open
 pub opened_is : (opened : List Bool) (latch : ℕ) → get_or (slice_set opened latch true) latch true ≡ true
 opened_is opened latch = go (cases latch (length opened))
@@ -56,10 +60,6 @@ module _ (p : Protocol) (who : ℕ) where
 
   goes_near : (to : Pos) → is_found to ≡ false → Near p who (goes p who to)
   goes_near to e = (to, refl, refl, omega arith, λ latch made. refl, unfound e, λ latch made o. o)
-
-  ended_unfound : (r : Option ℕ) → is_found (ended r) ≡ false
-  ended_unfound (Some v) = refl
-  ended_unfound None = refl
 
   claims_near : (c : ℕ) (s : State) → Near p who (claims p who c s)
   claims_near c Empty = (Body c, refl, refl, omega arith, λ latch made. refl, unfound refl, λ latch made o. o)

@@ -10,7 +10,7 @@ use Rattle.lz_proto.specs.declared.act.Act.TheVariants.{Read, Return, Throw, Go}
 use Rattle.lz_proto.specs.Protocol.{Protocol, content, position, thread, is_open, named}
 use Rattle.lz_proto.specs.Steps.{Outcome, Waits, Refuses, has_ended, marks, claims, places, sleeps, stores, takes, swaps, next, read, finish, acted}
 use Rattle.lz_proto.specs.Once.{abstract_of}
-use Rattle.lz_proto.specs.Kept.{Stage, Mine, Set, Going, Over, IsShared, is_over, Keeps, IsRun, Holds}
+use Rattle.lz_proto.specs.Kept.{Stage, Mine, Set, Going, Over, IsShared, is_over, Keeps, IsRun, Holds, IsApart}
 use Rattle.lz_proto.specs.Promises.{WaitsWell, IsBarred}
 use Rattle.lz_proto.proofs.Acting.{number}
 use Rattle.lz_proto.proofs.Following.{running_of}
@@ -23,9 +23,9 @@ if_unwaited : (b : Bool) (x y : Outcome) → number x ≢ 1 → number y ≢ 1 �
 if_unwaited true x y nx ny = nx
 if_unwaited false x y nx ny = ny
 
-module _ (p : Protocol) (stage : ℕ → Stage) (h : Holds p stage) (who : ℕ) where
+module _ (p : Protocol) (stage : ℕ → Stage) (h : Holds p stage) (apart : IsApart p) (who : ℕ) where
   sleeper : (c latch : ℕ) → position p who ≡ Sleep c latch → is_open p latch ≡ false → WaitsWell p who
-  sleeper c latch at closed = (c, latch, at, closed, go (stage latch) refl (subst (Keeps p.cells (length p.opened) stage who) at (h.keeps who)).2)
+  sleeper c latch at closed = (c, latch, at, closed, apart who c latch at, go (stage latch) refl (subst (Keeps p.cells (length p.opened) stage who) at (h.keeps who)).2)
     where
       go : (s : Stage) → stage latch ≡ s → IsShared c s → ((u : ℕ) × (abstract_of p c ≡ once.Running u) × (named p latch ≡ thread p u)) ⊎ ((u : ℕ) × (r : Option ℕ) × (position p u ≡ Open latch r))
       go (Mine w) e shared = absurd shared

@@ -14,7 +14,8 @@ use Rattle.lz_proto.specs.Steps.{Outcome, Moves, Waits, Refuses, finish, acted}
 use Rattle.lz_proto.specs.Once.{is_inside, abstract_of, Task, Runs, Ends, task, Rule, enters, gives, meets, returns, throws, stores, fails, Shows, silent, begins, moves}
 use Rattle.lz_proto.specs.Kept.{IsKept}
 use Rattle.lz_proto.specs.Promises.{after, ran, is_return, returned}
-use Rattle.lz_proto.proofs.Acting.{act_keeps, rests_outside, number}
+use Rattle.lz_proto.proofs.Acting.{rests_outside, number}
+use Rattle.lz_proto.proofs.Own.{step_keeps}
 use Rattle.lz_proto.proofs.Following.{running_of}
 use Rattle.lz_proto.proofs.Rules.{act_follows}
 use Rattle.lz_proto.proofs.Serving.{values_stay}
@@ -176,7 +177,7 @@ none_more c (a ∷ acts) p kept there given = go (λ q k t g. none_more c acts q
     go : ((q : Protocol) → IsKept q → All (λ a. a.0 < length q.at) acts → Given c q → returned c q acts ≡ 0) → (b : Bool) → is_return c (position p a.0) a.1 ≡ b → (o : Outcome) → acted p a.0 a.1 ≡ o → (if b then 1 else 0) + returned c (after p o) acts ≡ 0
     go rec true r o e = absurd (none_returns p kept a.0 here a.1 c given r)
     go rec false r (Moves q) e =
-        let rest : returned c q acts ≡ 0 = rec q (act_keeps p kept.0 kept.1 a.0 here a.1 q e) (subst (λ n. All (λ a. a.0 < n) acts) (sym (as_many p a.0 a.1 q e)) others) (given_stays p kept a.0 here a.1 c q e given) in
+        let rest : returned c q acts ≡ 0 = rec q (step_keeps p q kept a.0 here a.1 e) (subst (λ n. All (λ a. a.0 < n) acts) (sym (as_many p a.0 a.1 q e)) others) (given_stays p kept a.0 here a.1 c q e given) in
         omega arith
     go rec false r Waits e = let rest : returned c p acts ≡ 0 = rec p kept others given in omega arith
     go rec false r Refuses e = let rest : returned c p acts ≡ 0 = rec p kept others given in omega arith
@@ -197,12 +198,12 @@ returned_once c (a ∷ acts) p kept there = go (λ q k t. returned_once c acts q
 
     go : ((q : Protocol) → IsKept q → All (λ a. a.0 < length q.at) acts → returned c q acts ≤ 1) → (b : Bool) → is_return c (position p a.0) a.1 ≡ b → (o : Outcome) → acted p a.0 a.1 ≡ o → (if b then 1 else 0) + returned c (after p o) acts ≤ 1
     go rec true r (Moves q) e =
-        let rest : returned c q acts ≡ 0 = none_more c acts q (act_keeps p kept.0 kept.1 a.0 here a.1 q e) (there_behind q e) (return_gives p kept a.0 here a.1 c q e r) in
+        let rest : returned c q acts ≡ 0 = none_more c acts q (step_keeps p q kept a.0 here a.1 e) (there_behind q e) (return_gives p kept a.0 here a.1 c q e r) in
         omega arith
     go rec true r Waits e = absurd (let none = return_moves p kept a.0 here a.1 c Waits e r in omega (arith, none))
     go rec true r Refuses e = absurd (let none = return_moves p kept a.0 here a.1 c Refuses e r in omega (arith, none))
     go rec false r (Moves q) e =
-        let rest : returned c q acts ≤ 1 = rec q (act_keeps p kept.0 kept.1 a.0 here a.1 q e) (there_behind q e) in
+        let rest : returned c q acts ≤ 1 = rec q (step_keeps p q kept a.0 here a.1 e) (there_behind q e) in
         omega arith
     go rec false r Waits e = let rest : returned c p acts ≤ 1 = rec p kept others in omega arith
     go rec false r Refuses e = let rest : returned c p acts ≤ 1 = rec p kept others in omega arith
@@ -221,6 +222,6 @@ value_kept c v (a ∷ acts) p kept there is = go (λ q k t i. value_kept c v act
 
     go : ((q : Protocol) → IsKept q → All (λ a. a.0 < length q.at) acts → abstract_of q c ≡ once.Done v → abstract_of (ran q acts) c ≡ once.Done v) → (o : Outcome) → acted p a.0 a.1 ≡ o → abstract_of (ran (after p o) acts) c ≡ once.Done v
     go rec (Moves q) e =
-        rec q (act_keeps p kept.0 kept.1 a.0 here a.1 q e) (subst (λ n. All (λ a. a.0 < n) acts) (sym (as_many p a.0 a.1 q e)) others) (values_stay p kept a.0 here a.1 q e c v is)
+        rec q (step_keeps p q kept a.0 here a.1 e) (subst (λ n. All (λ a. a.0 < n) acts) (sym (as_many p a.0 a.1 q e)) others) (values_stay p kept a.0 here a.1 q e c v is)
     go rec Waits e = rec p kept others is
     go rec Refuses e = rec p kept others is

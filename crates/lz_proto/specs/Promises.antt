@@ -88,10 +88,10 @@ returned c p (a ∷ acts) = (if is_return c (position p a.0) a.1 then 1 else 0) 
 abbrev pub CanGo : Protocol → ℕ → Type 0
 CanGo p who = (q : Protocol) × (acted p who Go ≡ Moves q)
 
--- where an accessor waits, its latch is closed, and the latch names the thread that runs its cell, or some accessor is about to open the latch
+-- where an accessor waits, its latch is closed and names another thread; that thread runs its cell, or some accessor is about to open the latch
 abbrev pub WaitsWell : Protocol → ℕ → Type 0
 WaitsWell p who =
-    (c : ℕ) × (latch : ℕ) × (position p who ≡ Sleep c latch) × (is_open p latch ≡ false) × (((u : ℕ) × (abstract_of p c ≡ once.Running u) × (named p latch ≡ thread p u)) ⊎ ((u : ℕ) × (r : Option ℕ) × (position p u ≡ Open latch r)))
+    (c : ℕ) × (latch : ℕ) × (position p who ≡ Sleep c latch) × (is_open p latch ≡ false) × (named p latch ≡ thread p who → ⊥) × (((u : ℕ) × (abstract_of p c ≡ once.Running u) × (named p latch ≡ thread p u)) ⊎ ((u : ℕ) × (r : Option ℕ) × (position p u ≡ Open latch r)))
 
 -- it goes on at a closed latch
 abbrev pub IsBarred : Protocol → ℕ → Act → Type 0
@@ -100,10 +100,6 @@ IsBarred p who act = (act ≡ Go) × (c : ℕ) × (latch : ℕ) × (position p w
 -- an accessor of the same thread runs the cell's initialiser
 abbrev pub IsOwn : Protocol → ℕ → ℕ → Type 0
 IsOwn p who c = (u : ℕ) × (abstract_of p c ≡ once.Running u) × (thread p u ≡ thread p who)
-
--- no accessor awaits a latch that names its own thread
-abbrev pub IsApart : Protocol → Type 0
-IsApart p = (who c latch : ℕ) → position p who ≡ Sleep c latch → named p latch ≡ thread p who → ⊥
 
 -- its initialiser runs
 abbrev pub is_in_body : Pos → Bool

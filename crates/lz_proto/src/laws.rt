@@ -9,20 +9,18 @@ ghost use Rattle.lz_proto.specs.Protocol.{Protocol, position, is_open};
 ghost use Rattle.lz_proto.specs.Steps.{Moves, Waits, Refuses, acted, goes};
 ghost use Rattle.lz_proto.specs.Once.{Follows, abstract_of};
 ghost use Rattle.lz_proto.specs.Kept.{IsKept};
-ghost use Rattle.lz_proto.specs.Promises.{WaitsWell, IsBarred, IsOneRead, IsNew, IsOwn, IsApart, IsWrong, IsFull, CanGo, ran, steps, changes, returned};
+ghost use Rattle.lz_proto.specs.Promises.{WaitsWell, IsBarred, IsOneRead, IsNew, IsOwn, IsWrong, IsFull, CanGo, ran, steps, changes, returned};
 ghost use Rattle.lz_proto.specs.declared.once.Once.TheVariants as once;
 
-/// A new state keeps what every state keeps, and nobody in it awaits its own thread.
+/// A new state keeps what every state keeps.
 pub fn beginning()
-    ensures kept { (n : ℕ) (threads : List ℕ) (p : Protocol) → IsNew n threads p → IsKept p }
-    ensures apart { (n : ℕ) (threads : List ℕ) (p : Protocol) → IsNew n threads p → IsApart p }
+    ensures { (n : ℕ) (threads : List ℕ) (p : Protocol) → IsNew n threads p → IsKept p }
 {}
 
 /// Each step keeps what every state keeps, and is one by the rules of cells that are written once.
 pub fn steps()
     ensures kept { (p q : Protocol) → IsKept p → (who : ℕ) → who < length p.at → (act : Act) → acted p who act ≡ Moves q → IsKept q }
     ensures rules { (p q : Protocol) → IsKept p → (who : ℕ) → who < length p.at → (act : Act) → acted p who act ≡ Moves q → Follows p who act q }
-    ensures apart { (p q : Protocol) → IsKept p → IsApart p → (who : ℕ) → who < length p.at → (act : Act) → acted p who act ≡ Moves q → IsApart q }
 {}
 
 /// An act is refused exactly where the accessor can't do it, or there is no room for the latch that it would make.

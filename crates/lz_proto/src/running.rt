@@ -2,7 +2,7 @@
 
 ghost use Rattle.std.specs.Prelude.{◌≡◌, ◌<◌, ◌≤◌, ℕ, length};
 ghost use Rattle.std.specs.List.{All};
-ghost use Rattle.lz_proto.specs.Promises.{AllFollow, IsApart, moves, ran};
+ghost use Rattle.lz_proto.specs.Promises.{AllFollow, moves, ran};
 
 use crate::act::Act;
 use crate::proto::Proto;
@@ -15,7 +15,6 @@ impl Proto {
         ensures state { self.new ≡ ran self.old acts.now }
         ensures count { result ≡ moves self.old acts.now }
         ensures rules { AllFollow self.old acts.now }
-        ensures apart { IsApart self.old → IsApart self.new }
     {
         self.kept();
         let mut made = 0;

@@ -1,8 +1,8 @@
-use Rattle.std.proofs.Common.{◌≡◌, ◌≤◌, drop, [], arith, subst, sym}
+use Rattle.std.proofs.Common.{◌≡◌, ◌≤◌, drop, [], arith, subst}
 use Rattle.std.proofs.lemmas.List.{drop_more}
 use Rattle.std.proofs.Math.ListN.{drop_of_length-le}
-use Rattle.lz_proto.specs.Promises.{IsApart, count_of}
-use Rattle.lz_proto.proofs.Midway.{Midway, at_most_one, goes_on, over, all_follow, ran_apart}
+use Rattle.lz_proto.specs.Promises.{count_of}
+use Rattle.lz_proto.proofs.Midway.{Midway, at_most_one, goes_on, over, all_follow}
 use Rattle.lz_proto.proofs.proto.Proto.run.Goals as goal
 
 pub overflow_add-made : goal.overflow_add-made
@@ -30,9 +30,3 @@ returns-clause-count c =
 
 pub returns-clause-rules : goal.returns-clause-rules
 returns-clause-rules c = all_follow c.args.acts.now c.args.self.now c.kept.ensures.kept c.requires.there
-
-pub returns-clause-apart : goal.returns-clause-apart
-returns-clause-apart c apart =
-    let none : drop c.loop-given.given-index c.args.acts.now ≡ [] = drop_of_length-le c.args.acts.now (omega (arith, c.loop-given-test.false)) in
-    let state = (over c.args.self.now c.args.acts.now c.loop-given.self c.loop-given.made (subst (λ rest. Midway c.args.self.now c.args.acts.now c.loop-given.self rest c.loop-given.made) none c.loop-given.invariant.0)).0 in
-    subst IsApart (sym state) (ran_apart c.args.acts.now c.args.self.now c.kept.ensures.kept c.requires.there apart)
