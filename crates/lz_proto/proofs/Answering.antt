@@ -8,7 +8,8 @@ use Rattle.lz_proto.specs.Protocol.{Protocol, position}
 use Rattle.lz_proto.specs.Steps.{Outcome, Moves, Waits, Refuses, acted}
 use Rattle.lz_proto.specs.Once.{Follows}
 use Rattle.lz_proto.specs.Kept.{IsKept}
-use Rattle.lz_proto.specs.Promises.{Answers, WaitsWell, IsBarred, IsWrong, IsFull}
+use Rattle.lz_proto.specs.Causes.{WaitsWell, IsBarred, IsWrong, IsFull}
+use Rattle.lz_proto.specs.Promises.{Answers}
 use Rattle.lz_proto.proofs.Rules.{act_follows}
 use Rattle.lz_proto.proofs.Waiters.{act_waits, barred_waits}
 use Rattle.lz_proto.proofs.Refusing.{act_refused, is_refused}

@@ -11,7 +11,7 @@ use Rattle.lz_proto.specs.Protocol.{Protocol, content, position, thread, is_open
 use Rattle.lz_proto.specs.Steps.{Outcome, Moves, Waits, Refuses, stores, takes, swaps, next, acted}
 use Rattle.lz_proto.specs.Once.{is_inside, abstract_of, once_of}
 use Rattle.lz_proto.specs.Kept.{Stage, IsLatched, Keeps, IsRunBy, IsRun, Holds}
-use Rattle.lz_proto.specs.Promises.{CanGo}
+use Rattle.lz_proto.specs.Causes.{CanGo}
 use Rattle.lz_proto.proofs.Acting.{number, moves_same}
 use Rattle.lz_proto.proofs.Following.{running_of}
 use Rattle.lz_proto.proofs.Standing.{opened_is}

@@ -14,7 +14,7 @@ use Rattle.lz_proto.specs.Protocol.{Protocol, content, position, thread, named}
 use Rattle.lz_proto.specs.Steps.{Moves, acted, goes, looked, next}
 use Rattle.lz_proto.specs.Once.{once_of}
 use Rattle.lz_proto.specs.Kept.{Stage, Keeps, IsRunBy, IsRun, Holds, IsHeld, IsApart, IsKept}
-use Rattle.lz_proto.specs.Promises.{IsOwn}
+use Rattle.lz_proto.specs.Causes.{IsOwn}
 use Rattle.lz_proto.proofs.Latches.{made_for}
 use Rattle.lz_proto.proofs.Acting.{waits_for_made, act_keeps}
 use Rattle.lz_proto.proofs.Following.{running_of}

@@ -10,7 +10,7 @@ use Rattle.lz_proto.specs.declared.act.Act.TheVariants.{Read, Return, Throw, Go}
 use Rattle.lz_proto.specs.Protocol.{Protocol, content, position, thread, is_open, named}
 use Rattle.lz_proto.specs.Steps.{Outcome, Moves, Refuses, has_ended, goes, marks, claims, places, sleeps, stores, takes, swaps, next, read, finish, acted}
 use Rattle.lz_proto.specs.Kept.{Stage, IsLatched, Keeps, Holds}
-use Rattle.lz_proto.specs.Promises.{is_in_body, IsWrong, IsFull}
+use Rattle.lz_proto.specs.Causes.{is_in_body, IsWrong, IsFull}
 use Rattle.lz_proto.proofs.Latches.{made_for}
 use Rattle.lz_proto.proofs.Acting.{number}
 

@@ -11,7 +11,7 @@ use Rattle.lz_proto.specs.Protocol.{Protocol, content, position, thread, is_open
 use Rattle.lz_proto.specs.Steps.{Outcome, Waits, Refuses, has_ended, marks, claims, places, sleeps, stores, takes, swaps, next, read, finish, acted}
 use Rattle.lz_proto.specs.Once.{abstract_of}
 use Rattle.lz_proto.specs.Kept.{Stage, Mine, Set, Going, Over, IsShared, is_over, Keeps, IsRun, Holds, IsApart}
-use Rattle.lz_proto.specs.Promises.{WaitsWell, IsBarred}
+use Rattle.lz_proto.specs.Causes.{WaitsWell, IsBarred}
 use Rattle.lz_proto.proofs.Acting.{number}
 use Rattle.lz_proto.proofs.Following.{running_of}
 

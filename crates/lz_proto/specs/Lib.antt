@@ -3,4 +3,5 @@ pub mod Protocol
 pub mod Steps
 pub mod Once
 pub mod Kept
+pub mod Causes
 pub mod Promises

@@ -9,7 +9,8 @@ ghost use Rattle.lz_proto.specs.Protocol.{Protocol, position, is_open};
 ghost use Rattle.lz_proto.specs.Steps.{Moves, Waits, Refuses, acted, goes};
 ghost use Rattle.lz_proto.specs.Once.{Follows, abstract_of};
 ghost use Rattle.lz_proto.specs.Kept.{IsKept};
-ghost use Rattle.lz_proto.specs.Promises.{WaitsWell, IsBarred, IsOneRead, IsNew, IsOwn, IsWrong, IsFull, CanGo, ran, steps, changes, returned};
+ghost use Rattle.lz_proto.specs.Causes.{WaitsWell, IsBarred, IsOwn, IsWrong, IsFull, CanGo};
+ghost use Rattle.lz_proto.specs.Promises.{IsOneRead, IsNew, ran, steps, changes, returned};
 ghost use Rattle.lz_proto.specs.declared.once.Once.TheVariants as once;
 
 /// A new state keeps what every state keeps.

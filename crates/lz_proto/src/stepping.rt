@@ -5,7 +5,8 @@ ghost use Rattle.lz_proto.specs.Protocol.{content, position, thread, is_open, na
 ghost use Rattle.lz_proto.specs.Steps.{acted, next, read, finish, looked, claims, places, sleeps, stores, takes, swaps, opens, result_of, ended};
 ghost use Rattle.lz_proto.specs.Kept.{IsKept};
 ghost use Rattle.lz_proto.specs.Once.{Follows};
-ghost use Rattle.lz_proto.specs.Promises.{Answers, WaitsWell, IsBarred, IsWrong};
+ghost use Rattle.lz_proto.specs.Causes.{WaitsWell, IsBarred, IsWrong};
+ghost use Rattle.lz_proto.specs.Promises.{Answers};
 ghost use Rattle.lz_proto.specs.declared.stepped.Stepped.TheVariants as stepped;
 ghost use Rattle.lz_proto.specs.declared.pos.Pos.TheVariants as pos;
 
