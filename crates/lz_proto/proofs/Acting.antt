@@ -10,10 +10,10 @@ use Rattle.lz_proto.specs.declared.act.Act.TheVariants.{Read, Return, Throw, Go}
 use Rattle.lz_proto.specs.Protocol.{Protocol, content, position, thread, is_open, named}
 use Rattle.lz_proto.specs.Steps.{Outcome, Moves, Waits, Refuses, result_of, ended, has_ended, goes, looked, claims, places, sleeps, stores, takes, swaps, next, read, finish, acted}
 use Rattle.lz_proto.specs.Once.{is_inside}
-use Rattle.lz_proto.specs.Kept.{Stage, Set, is_over, IsShared, IsLatched, Keeps, IsIdle, IsRun, Holds, IsKept}
+use Rattle.lz_proto.specs.Kept.{Stage, Set, is_over, IsShared, IsLatched, Keeps, IsIdle, IsRun, Holds, IsHeld}
 use Rattle.lz_proto.proofs.Kept.{is_opening, goes_keeps}
 use Rattle.lz_proto.proofs.Writing.{claims_keep, stores_keep, swaps_keep}
-use Rattle.lz_proto.proofs.Latches.{made, marks_keep, places_keep, opens_keep}
+use Rattle.lz_proto.proofs.Latches.{made, made_for, marks_keep, places_keep, opens_keep}
 
 abbrev pub number : Outcome → ℕ
 number (Moves q) = 0
@@ -81,7 +81,7 @@ waits_for_made p stage h c latch is = made p.opened latch (h.over latch ∙ ap i
 
 module _ (p : Protocol) (stage : ℕ → Stage) (h : Holds p stage) (who : ℕ) (within : who < length p.at) where
   abbrev pub Kept : Outcome → Type 0
-  Kept o = (q : Protocol) → o ≡ Moves q → IsKept q
+  Kept o = (q : Protocol) → o ≡ Moves q → IsHeld q
 
   refuses : Kept Refuses
   refuses q e = absurd (unmoved Refuses q (omega arith) e)
@@ -92,7 +92,7 @@ module _ (p : Protocol) (stage : ℕ → Stage) (h : Holds p stage) (who : ℕ) 
 
   -- it goes on, inside the same cells
   pub goes_on : (pos to : Pos) → position p who ≡ pos → is_opening pos ≡ false → ((c : ℕ) → is_inside c to ≡ is_inside c pos) → Keeps p.cells (length p.opened) stage who to → Kept (goes p who to)
-  goes_on pos to at closed inside keep q e = subst IsKept (moves_same e) (stage, goes_keeps p stage h who within pos to at closed inside keep)
+  goes_on pos to at closed inside keep q e = subst IsHeld (moves_same e) (stage, goes_keeps p stage h who within pos to at closed inside keep)
 
   pub read_keeps : (pos : Pos) (c : ℕ) → position p who ≡ pos → Kept (read p who pos c)
   read_keeps pos c at = go (has_ended pos) (nat_lt c (length p.cells)) refl refl
@@ -136,7 +136,7 @@ module _ (p : Protocol) (stage : ℕ → Stage) (h : Holds p stage) (who : ℕ) 
   look_keeps c at (Done v) is = goes_on (Look c) (Got v) at refl (λ d. refl) tt
 
   pub claim_keeps : (c : ℕ) → position p who ≡ Claim c → (s : State) → content p c ≡ s → Kept (claims p who c s)
-  claim_keeps c at Empty is = λ q e. subst IsKept (moves_same e) (stage, claims_keep p stage h who within c (relied (Claim c) at) at is)
+  claim_keeps c at Empty is = λ q e. subst IsHeld (moves_same e) (stage, claims_keep p stage h who within c (relied (Claim c) at) at is)
   claim_keeps c at (Evaluating t) is = goes_on (Claim c) (Look c) at refl (λ d. refl) (relied (Claim c) at)
   claim_keeps c at (Waiting latch) is = goes_on (Claim c) (Look c) at refl (λ d. refl) (relied (Claim c) at)
   claim_keeps c at (Done v) is = goes_on (Claim c) (Look c) at refl (λ d. refl) (relied (Claim c) at)
@@ -145,7 +145,7 @@ module _ (p : Protocol) (stage : ℕ → Stage) (h : Holds p stage) (who : ℕ) 
   place_keeps c latch at (Evaluating t) is = go (nat_eq t (named p latch)) refl
     where
       go : (b : Bool) → nat_eq t (named p latch) ≡ b → Kept (if b then Moves (record p { cells = slice_set p.cells c (Waiting latch); at = slice_set p.at who (Look c) }) else goes p who (Look c))
-      go true e = λ q m. subst IsKept (moves_same m) (_, places_keep p stage h who within c latch t at is (eqb-true t (named p latch) e))
+      go true e = λ q m. subst IsHeld (moves_same m) (_, places_keep p stage h who within c latch t at is (eqb-true t (named p latch) e))
       go false e = goes_on (Place c latch) (Look c) at refl (λ d. refl) (relied (Place c latch) at).0
   place_keeps c latch at Empty is = goes_on (Place c latch) (Look c) at refl (λ d. refl) (relied (Place c latch) at).0
   place_keeps c latch at (Waiting other) is = goes_on (Place c latch) (Look c) at refl (λ d. refl) (relied (Place c latch) at).0
@@ -169,7 +169,7 @@ module _ (p : Protocol) (stage : ℕ → Stage) (h : Holds p stage) (who : ℕ) 
   store_keeps c r at (Evaluating t) is = go (nat_eq t (thread p who)) refl
     where
       go : (b : Bool) → nat_eq t (thread p who) ≡ b → Kept (if b then Moves (record p { cells = slice_set p.cells c (result_of r); at = slice_set p.at who (ended r) }) else goes p who (Take c r))
-      go true e = λ q m. subst IsKept (moves_same m) (stage, stores_keep p stage h who within c (relied (Store c r) at) r t at is (ended_keeps r (slice_set p.cells c (result_of r)) (length p.opened) stage who))
+      go true e = λ q m. subst IsHeld (moves_same m) (stage, stores_keep p stage h who within c (relied (Store c r) at) r t at is (ended_keeps r (slice_set p.cells c (result_of r)) (length p.opened) stage who))
       go false e = absurd (true≢false (sym (eq-eqb t (thread p who) (runs_here (Store c r) c t at (eq-eqb c c refl) is)) ∙ e))
   store_keeps c r at Empty is = absurd (busy_here (Store c r) c at (eq-eqb c c refl) (subst (IsRun p c) is (h.runs c)))
   store_keeps c r at (Waiting latch) is =
@@ -187,11 +187,15 @@ module _ (p : Protocol) (stage : ℕ → Stage) (h : Holds p stage) (who : ℕ) 
   swap_keeps c r latch at (Waiting other) is = go (nat_eq other latch) refl
     where
       go : (b : Bool) → nat_eq other latch ≡ b → Kept (if b then Moves (record p { cells = slice_set p.cells c (result_of r); at = slice_set p.at who (Open latch r) }) else Refuses)
-      go true e = λ q m. subst IsKept (moves_same m) (_, swaps_keep p stage h who within c (relied (Swap c r latch) at).0 r latch at (is ∙ ap Waiting (eqb-true other latch e)))
+      go true e = λ q m. subst IsHeld (moves_same m) (_, swaps_keep p stage h who within c (relied (Swap c r latch) at).0 r latch at (is ∙ ap Waiting (eqb-true other latch e)))
       go false e = refuses
   swap_keeps c r latch at Empty is = refuses
   swap_keeps c r latch at (Evaluating t) is = refuses
   swap_keeps c r latch at (Done v) is = refuses
+
+  mark_keeps : (c t : ℕ) → position p who ≡ Mark c t → (b : Bool) → Kept (if b then Moves (made_for p who c t) else Refuses)
+  mark_keeps c t at true = λ q e. subst IsHeld (moves_same e) (_, marks_keep p stage h who within c t at)
+  mark_keeps c t at false = refuses
 
   pub next_keeps : (pos : Pos) → position p who ≡ pos → Kept (next p who pos)
   next_keeps (Look c) at = look_keeps c at (content p c) refl
@@ -199,8 +203,8 @@ module _ (p : Protocol) (stage : ℕ → Stage) (h : Holds p stage) (who : ℕ) 
   next_keeps (Store c r) at = store_keeps c r at (content p c) refl
   next_keeps (Take c r) at = take_keeps c r at (content p c) refl
   next_keeps (Swap c r latch) at = swap_keeps c r latch at (content p c) refl
-  next_keeps (Open latch r) at = λ q e. subst IsKept (moves_same e) (_, opens_keep p stage h who within latch r at (λ cells n stage. ended_keeps r cells n stage who))
-  next_keeps (Mark c t) at = λ q e. subst IsKept (moves_same e) (_, marks_keep p stage h who within c t at)
+  next_keeps (Open latch r) at = λ q e. subst IsHeld (moves_same e) (_, opens_keep p stage h who within latch r at (λ cells n stage. ended_keeps r cells n stage who))
+  next_keeps (Mark c t) at = mark_keeps c t at (nat_lt 0 p.spare)
   next_keeps (Place c latch) at = place_keeps c latch at (content p c) refl
   next_keeps (Sleep c latch) at = sleep_keeps c latch at (is_open p latch)
   next_keeps Idle at = refuses

@@ -55,9 +55,13 @@ each_grown P xs x d at others =
         let longer : length (xs ++ x ∷ []) ≤ j = omega (arith, length-append xs (x ∷ [])) in
         subst (P j) (get_or_past xs j d past ∙ sym (get_or_past (xs ++ x ∷ []) j d longer)) (others j ne)
 
+-- the state behind the making of a latch
+abbrev pub made_for : Protocol → ℕ → ℕ → ℕ → Protocol
+made_for p who c t = record p { opened = p.opened ++ false ∷ []; owner = p.owner ++ t ∷ []; at = slice_set p.at who (Place c (length p.opened)); spare = p.spare - 1 }
+
 module _ (p : Protocol) (stage : ℕ → Stage) (h : Holds p stage) (who : ℕ) (within : who < length p.at) where
   -- a latch is made
-  pub marks_keep : (c t : ℕ) → position p who ≡ Mark c t → Holds (record p { opened = p.opened ++ false ∷ []; owner = p.owner ++ t ∷ []; at = slice_set p.at who (Place c (length p.opened)); spare = p.spare - 1 }) (put (length p.opened) (Mine who) stage)
+  pub marks_keep : (c t : ℕ) → position p who ≡ Mark c t → Holds (made_for p who c t) (put (length p.opened) (Mine who) stage)
   marks_keep c t at = record {
     threads = h.threads ∙ sym (length-set p.at who next);
     owners = length-append p.owner (t ∷ []) ∙ ap (λ n. n + 1) h.owners ∙ sym (length-append p.opened (false ∷ []));

@@ -12,3 +12,9 @@ pub mod Standing
 pub mod Serving
 pub mod Pacing
 pub mod Pace
+pub mod Own
+pub mod Refusing
+pub mod Midway
+pub mod CanGo
+pub mod WrittenOnce
+pub mod Answering

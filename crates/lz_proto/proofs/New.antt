@@ -2,7 +2,8 @@
 use Rattle.std.proofs.Common.{◌≡◌, ℕ, ◌<◌, ◌≤◌, List, [], length, get_or, replicate, ◌⊎◌, inl, inr, sym, ap, subst, refl, ◌∙◌, arith, true≢false}
 use Rattle.std.proofs.lemmas.List.{get_or-replicate, length-replicate, get_or_past}
 use Rattle.lz_proto.specs.declared.state.State.TheVariants.{Empty}
-use Rattle.lz_proto.specs.declared.pos.Pos.TheVariants.{Idle}
+use Rattle.lz_proto.specs.declared.pos.Pos.{Pos}
+use Rattle.lz_proto.specs.declared.pos.Pos.TheVariants.{Idle, Sleep}
 use Rattle.lz_proto.specs.Protocol.{Protocol}
 use Rattle.lz_proto.specs.Once.{is_inside}
 use Rattle.lz_proto.specs.Kept.{Over, IsLatched, Keeps, IsRun, IsKept}
@@ -19,6 +20,10 @@ everywhere_same n i x = go (cases i n)
     go : (i < n) ⊎ (n ≤ i) → get_or (replicate n x) i x ≡ x
     go (inl within) = get_or-replicate n i x x within
     go (inr past) = get_or_past (replicate n x) i x (omega (arith, length-replicate n x))
+
+abbrev IsAsleep : Pos → Type 0
+IsAsleep (Sleep c latch) = Unit {0}
+IsAsleep other = ⊥
 
 abbrev pub new : ℕ → List ℕ → Protocol
 new n threads = record { cells = replicate n Empty; opened = []; owner = []; at = replicate (length threads) Idle; threads = threads; spare = 0 }
@@ -37,6 +42,7 @@ new_kept n threads = (
     going = λ latch who e. absurd (subst IsGoing (sym e) tt);
     over = λ latch. refl;
   },
+  λ who c latch asleep own. subst IsAsleep (sym asleep ∙ idle who) tt,
 )
   where
     idle : (who : ℕ) → get_or (replicate (length threads) Idle) who Idle ≡ Idle

@@ -1,5 +1,6 @@
 -- One read makes few steps between changes of its cell.
-use Rattle.std.proofs.Common.{◌≡◌, ◌≢◌, ℕ, ◌<◌, ◌≤◌, ◌+◌, ◌*◌, List, [], ◌∷◌, length, Bool, true, false, nat_eq, ◌⊎◌, inl, inr, sym, ap, subst, refl, ◌∙◌, arith, eqb-true, eq-eqb, ne_eqb, if◌then◌else◌}
+use Rattle.std.proofs.Common.{◌≡◌, ◌≢◌, ℕ, ◌<◌, ◌≤◌, ◌+◌, ◌*◌, List, [], ◌∷◌, length, Bool, true, false, nat_eq, nat_lt, ◌&&◌, ◌⊎◌, inl, inr, sym, ap, subst, refl, ◌∙◌, arith, eqb-true, eq-eqb, ne_eqb, if◌then◌else◌}
+use Rattle.std.proofs.lemmas.List.{get_or-set_same}
 use Rattle.runs.proofs.Putting.{same_or_not}
 use Rattle.lz_proto.specs.declared.state.State.{State}
 use Rattle.lz_proto.specs.declared.state.State.TheVariants.{Evaluating, Waiting}
@@ -8,15 +9,17 @@ use Rattle.lz_proto.specs.declared.pos.Pos.TheVariants.{Idle, Look, Claim, Body,
 use Rattle.lz_proto.specs.declared.once.Once.{Once}
 use Rattle.lz_proto.specs.declared.once.Once.TheVariants as once
 use Rattle.lz_proto.specs.declared.act.Act.{Act}
+use Rattle.lz_proto.specs.declared.act.Act.TheVariants.{Read}
 use Rattle.lz_proto.specs.Protocol.{Protocol, content, position, named}
-use Rattle.lz_proto.specs.Steps.{Outcome, Moves, Waits, Refuses, acted}
+use Rattle.lz_proto.specs.Steps.{Outcome, Moves, Waits, Refuses, has_ended, goes, acted}
 use Rattle.lz_proto.specs.Once.{abstract_of, task}
 use Rattle.lz_proto.specs.Kept.{Stage, Mine, is_over, Keeps, IsKept}
-use Rattle.lz_proto.specs.Promises.{after, IsOneRead, steps, changes, differ, if_moved}
+use Rattle.lz_proto.specs.Promises.{after, ran, IsOneRead, steps, changes, differ, if_moved}
 use Rattle.lz_proto.proofs.Latches.{made}
-use Rattle.lz_proto.proofs.Acting.{act_keeps}
+use Rattle.lz_proto.proofs.Acting.{moves_same, unmoved}
+use Rattle.lz_proto.proofs.Own.{step_keeps}
 use Rattle.lz_proto.proofs.Standing.{others_stand, as_many, names_stay}
-use Rattle.lz_proto.proofs.Serving.{Serves, own_serves, other_serves}
+use Rattle.lz_proto.proofs.Serving.{Serves, own_serves, other_serves, got_is_done}
 use Rattle.lz_proto.proofs.Pacing.{rank, rank_small, own_falls, Kin, same, placed, changed, act_kin}
 
 -- a latch in the place of `Evaluating` ranks no position higher
@@ -132,18 +135,37 @@ paced who c (a ∷ acts) p kept one serves = go (λ q k o s. paced who c acts q 
   where
     go : ((q : Protocol) → IsKept q → IsOneRead (length q.at) who acts → Serves c (abstract_of q c) (task (position q who)) → steps who q acts ≤ rank q (content q c) (position q who) + 9 * changes c q acts) → (o : Outcome) → acted p a.0 a.1 ≡ o → (a.0 ≡ who) ⊎ (a.0 ≢ who) → (if nat_eq a.0 who then if_moved o else 0) + steps who (after p o) acts ≤ rank p (content p c) (position p who) + 9 * (differ (abstract_of p c) (abstract_of (after p o) c) + changes c (after p o) acts)
     go rec (Moves q) e (inl is_who) =
-        let next : steps who q acts ≤ rank q (content q c) (position q who) + 9 * changes c q acts = rec q (act_keeps p kept.0 kept.1 a.0 one.0 a.1 q e) (subst (λ n. IsOneRead n who acts) (sym (as_many p a.0 a.1 q e)) one.2) (subst (λ u. Serves c (abstract_of q c) (task (position q u))) is_who (own_serves p kept a.0 one.0 a.1 q e (one.1 is_who) c (subst (λ u. Serves c (abstract_of p c) (task (position p u))) (sym is_who) serves))) in
+        let next : steps who q acts ≤ rank q (content q c) (position q who) + 9 * changes c q acts = rec q (step_keeps p q kept a.0 one.0 a.1 e) (subst (λ n. IsOneRead n who acts) (sym (as_many p a.0 a.1 q e)) one.2) (subst (λ u. Serves c (abstract_of q c) (task (position q u))) is_who (own_serves p kept a.0 one.0 a.1 q e (one.1 is_who) c (subst (λ u. Serves c (abstract_of p c) (task (position p u))) (sym is_who) serves))) in
         let lower : rank q (content q c) (position q who) < rank p (content p c) (position p who) = own_rank p kept a one.0 q e who c is_who (one.0, one.1, tt) serves in
         rw (eq-eqb a.0 who is_who) (omega arith)
     go rec (Moves q) e (inr ne) =
-        let next : steps who q acts ≤ rank q (content q c) (position q who) + 9 * changes c q acts = rec q (act_keeps p kept.0 kept.1 a.0 one.0 a.1 q e) (subst (λ n. IsOneRead n who acts) (sym (as_many p a.0 a.1 q e)) one.2) (other_serves p kept a.0 one.0 a.1 q e who (λ e. ne (sym e)) c serves) in
+        let next : steps who q acts ≤ rank q (content q c) (position q who) + 9 * changes c q acts = rec q (step_keeps p q kept a.0 one.0 a.1 e) (subst (λ n. IsOneRead n who acts) (sym (as_many p a.0 a.1 q e)) one.2) (other_serves p kept a.0 one.0 a.1 q e who (λ e. ne (sym e)) c serves) in
         let low : rank q (content q c) (position q who) ≤ rank p (content p c) (position p who) + 9 * differ (abstract_of p c) (abstract_of q c) = other_rank p kept a one.0 q e who c ne in
         rw (ne_eqb a.0 who ne) (omega arith)
     go rec Waits e s = let next = rec p kept one.2 serves in rw (nothing (nat_eq a.0 who)) (omega arith)
     go rec Refuses e s = let next = rec p kept one.2 serves in rw (nothing (nat_eq a.0 who)) (omega arith)
 
-pub read_paced : (who c : ℕ) (acts : List (ℕ × Act)) (p : Protocol) → IsKept p → IsOneRead (length p.at) who acts → position p who ≡ Look c → steps who p acts ≤ 16 * (2 + changes c p acts)
-read_paced who c acts p kept one at =
-    let bound = paced who c acts p kept one (subst (λ x. Serves c (abstract_of p c) (task x)) (sym at) refl) in
-    let small : rank p (content p c) (position p who) ≤ 9 = rank_small p (content p c) (position p who) in
-    omega arith
+-- an accessor that is entered looks at its cell
+pub entered : (p q : Protocol) (who c : ℕ) → who < length p.at → acted p who (Read c) ≡ Moves q → position q who ≡ Look c
+entered p q who c within e = go (has_ended (position p who) && nat_lt c (length p.cells)) e
+  where
+    go : (b : Bool) → (if b then goes p who (Look c) else Refuses) ≡ Moves q → position q who ≡ Look c
+    go true e = subst (λ q. position q who ≡ Look c) (moves_same e) (get_or-set_same p.at who (Look c) Idle within)
+    go false e = absurd (unmoved Refuses q (omega arith) e)
+
+pub read_paced : (who c : ℕ) (acts : List (ℕ × Act)) (p q : Protocol) → IsKept p → who < length p.at → acted p who (Read c) ≡ Moves q → IsOneRead (length p.at) who acts → steps who p ((who, Read c) ∷ acts) ≤ 16 * (2 + changes c p ((who, Read c) ∷ acts))
+unfolding steps changes
+read_paced who c acts p q kept within e one = go (acted p who (Read c)) e
+  where
+    bound : steps who q acts ≤ 9 + 9 * changes c q acts
+    bound =
+        let most = paced who c acts q (step_keeps p q kept who within (Read c) e) (subst (λ n. IsOneRead n who acts) (sym (as_many p who (Read c) q e)) one) (subst (λ x. Serves c (abstract_of q c) (task x)) (sym (entered p q who c within e)) refl) in
+        let small : rank q (content q c) (position q who) ≤ 9 = rank_small q (content q c) (position q who) in
+        omega arith
+
+    go : (o : Outcome) → o ≡ Moves q → (if nat_eq who who then if_moved o else 0) + steps who (after p o) acts ≤ 16 * (2 + (differ (abstract_of p c) (abstract_of (after p o) c) + changes c (after p o) acts))
+    go o is = subst (λ o. (if nat_eq who who then if_moved o else 0) + steps who (after p o) acts ≤ 16 * (2 + (differ (abstract_of p c) (abstract_of (after p o) c) + changes c (after p o) acts))) (sym is) (rw (eq-eqb who who refl) (let most = bound in omega arith))
+
+pub read_value : (who c : ℕ) (acts : List (ℕ × Act)) (p q : Protocol) → IsKept p → who < length p.at → acted p who (Read c) ≡ Moves q → IsOneRead (length p.at) who acts → (v : ℕ) → position (ran q acts) who ≡ Got v → abstract_of (ran q acts) c ≡ once.Done v
+read_value who c acts p q kept within e one =
+    got_is_done who c acts q (step_keeps p q kept who within (Read c) e) (subst (λ n. IsOneRead n who acts) (sym (as_many p who (Read c) q e)) one) (entered p q who c within e)

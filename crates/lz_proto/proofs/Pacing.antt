@@ -1,5 +1,5 @@
 -- The steps of one read, by the changes of its cell.
-use Rattle.std.proofs.Common.{◌≡◌, ℕ, suc, ◌<◌, ◌≤◌, ◌+◌, ◌-◌, [], ◌∷◌, ◌++◌, length, get_or, slice_set, Bool, true, false, nat_eq, nat_lt, Option, Some, None, ⊎_elim, sym, ap, subst, refl, ◌∙◌, arith, eqb-true, eq-eqb, true≢false, if◌then◌else◌, ◌&&◌}
+use Rattle.std.proofs.Common.{◌≡◌, ℕ, suc, ◌<◌, ◌≤◌, ◌+◌, [], ◌∷◌, ◌++◌, length, get_or, slice_set, Bool, true, false, nat_eq, nat_lt, Option, Some, None, ⊎_elim, sym, ap, subst, refl, ◌∙◌, arith, eqb-true, eq-eqb, true≢false, if◌then◌else◌, ◌&&◌}
 use Rattle.std.proofs.Math.Seq.{get_or-append_seam}
 use Rattle.runs.proofs.Putting.{same_or_not}
 use Rattle.lz_proto.specs.declared.state.State.{State}
@@ -16,6 +16,7 @@ use Rattle.lz_proto.specs.Once.{abstract_of, once_of, task}
 use Rattle.lz_proto.specs.Kept.{Stage, is_over, Holds}
 use Rattle.lz_proto.specs.Promises.{IsRead}
 use Rattle.lz_proto.proofs.Kept.{moved_there, written_there, written_other}
+use Rattle.lz_proto.proofs.Latches.{made_for}
 use Rattle.lz_proto.proofs.Acting.{unmoved, moves_same, relied}
 use Rattle.lz_proto.proofs.Serving.{Serves}
 
@@ -233,8 +234,9 @@ module _ (p : Protocol) (stage : ℕ → Stage) (h : Holds p stage) (who : ℕ) 
       (let q' : Protocol = record p { opened = slice_set p.opened latch true; at = slice_set p.at who (ended r) } in
       rw (moved_there p stage h who within (Open latch r) (ended r) at, ended_rank q' (content p c) r) (omega arith))
 
-  mark_falls : (d t : ℕ) → position p who ≡ Mark d t → Falls (from_mark t (content p c)) (Moves (record p { opened = p.opened ++ false ∷ []; owner = p.owner ++ t ∷ []; at = slice_set p.at who (Place d (length p.opened)); spare = p.spare - 1 }))
-  mark_falls d t at q m =
+  mark_falls : (d t : ℕ) → position p who ≡ Mark d t → (b : Bool) → Falls (from_mark t (content p c)) (if b then Moves (made_for p who d t) else Refuses)
+  mark_falls d t at false = refuses
+  mark_falls d t at true = λ q m.
       subst (λ q. rank q (content q c) (position q who) < from_mark t (content p c)) (moves_same m)
       (let names : get_or (p.owner ++ t ∷ []) (length p.opened) 0 ≡ t = subst (λ n. get_or (p.owner ++ t ∷ []) n 0 ≡ t) h.owners (get_or-append_seam p.owner t [] 0) in
       rw (moved_there p stage h who within (Mark d t) (Place d (length p.opened)) at, names) (mark_place t (content p c)))
@@ -277,7 +279,7 @@ module _ (p : Protocol) (stage : ℕ → Stage) (h : Holds p stage) (who : ℕ) 
   next_falls (Take d r) at e = take_falls d r at (content p d)
   next_falls (Swap d r latch) at e = swap_falls d r latch at (content p d)
   next_falls (Open latch r) at e = open_falls latch r at
-  next_falls (Mark d t) at e = mark_falls d t at
+  next_falls (Mark d t) at e = mark_falls d t at (nat_lt 0 p.spare)
   next_falls (Place d latch) at e = at_cell (Place d latch) d e (place_falls d latch e at (content p d) (ap (content p) (sym e)))
   next_falls (Sleep d latch) at e = at_cell (Sleep d latch) d e (sleep_falls d latch at (content p d) (ap (content p) (sym e)) (is_open p latch) refl)
   next_falls Idle at e = refuses
@@ -376,6 +378,10 @@ module _ (p : Protocol) (stage : ℕ → Stage) (h : Holds p stage) (who : ℕ) 
   sleeps_kin d true = goes_kin (Look d)
   sleeps_kin d false = λ q e. absurd (unmoved Waits q (omega arith) e)
 
+  marks_kin : (d t : ℕ) (b : Bool) → Kindred (if b then Moves (made_for p who d t) else Refuses)
+  marks_kin d t true = λ q m. subst (λ q. Kin p q c) (moves_same m) (same refl)
+  marks_kin d t false = refuses_kin
+
   next_kin : (pos : Pos) → position p who ≡ pos → Kindred (next p who pos)
   next_kin (Look d) at = goes_kin (looked p who d (content p d))
   next_kin (Claim d) at = claims_kin d at (content p d) refl
@@ -383,7 +389,7 @@ module _ (p : Protocol) (stage : ℕ → Stage) (h : Holds p stage) (who : ℕ) 
   next_kin (Take d r) at = takes_kin d r (content p d)
   next_kin (Swap d r latch) at = swaps_kin d r latch at (content p d) refl
   next_kin (Open latch r) at = λ q m. subst (λ q. Kin p q c) (moves_same m) (same refl)
-  next_kin (Mark d t) at = λ q m. subst (λ q. Kin p q c) (moves_same m) (same refl)
+  next_kin (Mark d t) at = marks_kin d t (nat_lt 0 p.spare)
   next_kin (Place d latch) at = places_kin d latch at (content p d) refl
   next_kin (Sleep d latch) at = sleeps_kin d (is_open p latch)
   next_kin Idle at = refuses_kin

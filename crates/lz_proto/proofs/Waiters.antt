@@ -8,10 +8,10 @@ use Rattle.lz_proto.specs.declared.once.Once.TheVariants as once
 use Rattle.lz_proto.specs.declared.act.Act.{Act}
 use Rattle.lz_proto.specs.declared.act.Act.TheVariants.{Read, Return, Throw, Go}
 use Rattle.lz_proto.specs.Protocol.{Protocol, content, position, thread, is_open, named}
-use Rattle.lz_proto.specs.Steps.{Outcome, Waits, Refuses, has_ended, claims, places, sleeps, stores, takes, swaps, next, read, finish, acted}
+use Rattle.lz_proto.specs.Steps.{Outcome, Waits, Refuses, has_ended, marks, claims, places, sleeps, stores, takes, swaps, next, read, finish, acted}
 use Rattle.lz_proto.specs.Once.{abstract_of}
-use Rattle.lz_proto.specs.Kept.{Stage, Mine, Set, Going, Over, IsShared, is_over, Keeps, IsRun, Holds}
-use Rattle.lz_proto.specs.Promises.{WaitsWell}
+use Rattle.lz_proto.specs.Kept.{Stage, Mine, Set, Going, Over, IsShared, is_over, Keeps, IsRun, Holds, IsApart}
+use Rattle.lz_proto.specs.Causes.{WaitsWell, IsBarred}
 use Rattle.lz_proto.proofs.Acting.{number}
 use Rattle.lz_proto.proofs.Following.{running_of}
 
@@ -23,15 +23,15 @@ if_unwaited : (b : Bool) (x y : Outcome) → number x ≢ 1 → number y ≢ 1 �
 if_unwaited true x y nx ny = nx
 if_unwaited false x y nx ny = ny
 
-module _ (p : Protocol) (stage : ℕ → Stage) (h : Holds p stage) (who : ℕ) where
+module _ (p : Protocol) (stage : ℕ → Stage) (h : Holds p stage) (apart : IsApart p) (who : ℕ) where
   sleeper : (c latch : ℕ) → position p who ≡ Sleep c latch → is_open p latch ≡ false → WaitsWell p who
-  sleeper c latch at closed = (c, latch, at, closed, go (stage latch) refl (subst (Keeps p.cells (length p.opened) stage who) at (h.keeps who)).2)
+  sleeper c latch at closed = (c, latch, at, closed, apart who c latch at, go (stage latch) refl (subst (Keeps p.cells (length p.opened) stage who) at (h.keeps who)).2)
     where
-      go : (s : Stage) → stage latch ≡ s → IsShared c s → ((u : ℕ) × (abstract_of p c ≡ once.Running u)) ⊎ ((u : ℕ) × (r : Option ℕ) × (position p u ≡ Open latch r))
+      go : (s : Stage) → stage latch ≡ s → IsShared c s → ((u : ℕ) × (abstract_of p c ≡ once.Running u) × (named p latch ≡ thread p u)) ⊎ ((u : ℕ) × (r : Option ℕ) × (position p u ≡ Open latch r))
       go (Mine w) e shared = absurd shared
       go (Set d) e shared =
           let run = subst (IsRun p c) (h.set latch c (e ∙ ap Set shared)) (h.runs c) in
-          inl (run.0, running_of p stage h c run.0 run.1)
+          inl (run.0, running_of p stage h c run.0 run.1, sym run.2)
       go (Going w) e shared = let o = h.going latch w e in inr (w, o.0, o.1)
       go Over e shared = absurd (true≢false (sym (h.over latch ∙ ap is_over e) ∙ closed))
 
@@ -76,7 +76,7 @@ module _ (p : Protocol) (stage : ℕ → Stage) (h : Holds p stage) (who : ℕ) 
   next_waits (Take c r) at w = unwaited (takes p who c r (content p c)) (takes_on c r (content p c)) w
   next_waits (Swap c r latch) at w = unwaited (swaps p who c r latch (content p c)) (swaps_on c r latch (content p c)) w
   next_waits (Open latch r) at w = unwaited (next p who (Open latch r)) (omega arith) w
-  next_waits (Mark c t) at w = unwaited (next p who (Mark c t)) (omega arith) w
+  next_waits (Mark c t) at w = unwaited (marks p who c t) (if_unwaited (nat_lt 0 p.spare) _ _ (omega arith) (omega arith)) w
   next_waits (Place c latch) at w = unwaited (places p who c latch (content p c)) (places_on c latch (content p c)) w
   next_waits (Sleep c latch) at w = sleeps_on c latch at (is_open p latch) refl w
   next_waits Idle at w = unwaited Refuses (omega arith) w
@@ -106,3 +106,8 @@ module _ (p : Protocol) (stage : ℕ → Stage) (h : Holds p stage) (who : ℕ) 
   act_waits (Return v) w = finish_waits (position p who) (Some v) w
   act_waits Throw w = finish_waits (position p who) None w
   act_waits Go w = next_waits (position p who) refl w
+
+-- and waits wherever it goes on at a closed latch
+pub barred_waits : (p : Protocol) (who : ℕ) (act : Act) → IsBarred p who act → acted p who act ≡ Waits
+barred_waits p who act barred =
+    ap (acted p who) barred.0 ∙ ap (next p who) barred.3 ∙ ap (sleeps p who barred.1) barred.4

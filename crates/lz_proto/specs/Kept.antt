@@ -78,6 +78,14 @@ pub record Holds (p : Protocol) (stage : ℕ → Stage) : Type 0 where
   pub going : (latch who : ℕ) → stage latch ≡ Going who → (r : Option ℕ) × (position p who ≡ Open latch r)
   pub over : (latch : ℕ) → is_open p latch ≡ is_over (stage latch)
 
+-- the same, for some stages
+abbrev pub IsHeld : Protocol → Type 0
+IsHeld p = (stage : ℕ → Stage) × Holds p stage
+
+-- no accessor awaits a latch that names its own thread
+abbrev pub IsApart : Protocol → Type 0
+IsApart p = (who c latch : ℕ) → position p who ≡ Sleep c latch → named p latch ≡ thread p who → ⊥
+
 -- what every state of the protocol keeps
 abbrev pub IsKept : Protocol → Type 0
-IsKept p = (stage : ℕ → Stage) × Holds p stage
+IsKept p = (stage : ℕ → Stage) × Holds p stage × IsApart p

@@ -2,5 +2,6 @@
 pub mod Protocol
 pub mod Steps
 pub mod Once
-pub mod Kept
+pub mod Causes
 pub mod Promises
+pub mod Kept

@@ -10,7 +10,7 @@ use Rattle.lz_proto.specs.Protocol.{Protocol, content, thread}
 use Rattle.lz_proto.specs.Protocol.{position as stands}
 use Rattle.lz_proto.specs.Steps.{has_ended}
 use Rattle.lz_proto.specs.declared.act.Act.{Act}
-use Rattle.lz_proto.specs.declared.act.Act.TheVariants.{Read}
+use Rattle.lz_proto.specs.declared.act.Act.TheVariants.{Read, Return, Throw, Go}
 
 -- whether an accessor has claimed this cell, and hasn't given it a result yet
 abbrev pub is_inside : ℕ → Pos → Bool
@@ -65,14 +65,15 @@ task (Got v) = Tells (Some v)
 task Failed = Tells None
 task Cycle = Meets
 
--- the move of an accessor on its cell: what the cell is and what the accessor is at, before and after
-pub data Rule (p : Protocol) (who c : ℕ) : Once → Task → Once → Task → Type 0 where
-  enters : Rule p who c once.Empty (Reads c) (once.Running who) (Runs c)
-  gives : (v : ℕ) → Rule p who c (once.Done v) (Reads c) (once.Done v) (Tells (Some v))
-  meets : (u : ℕ) → thread p u ≡ thread p who → Rule p who c (once.Running u) (Reads c) (once.Running u) Meets
-  ends : (r : Option ℕ) → Rule p who c (once.Running who) (Runs c) (once.Running who) (Ends c r)
-  stores : (v : ℕ) → Rule p who c (once.Running who) (Ends c (Some v)) (once.Done v) (Tells (Some v))
-  fails : Rule p who c (once.Running who) (Ends c None) once.Empty (Tells None)
+-- the move of an accessor on its cell by an act: what the cell is and what the accessor is at, before and after
+pub data Rule (p : Protocol) (who c : ℕ) : Act → Once → Task → Once → Task → Type 0 where
+  enters : Rule p who c Go once.Empty (Reads c) (once.Running who) (Runs c)
+  gives : (v : ℕ) → Rule p who c Go (once.Done v) (Reads c) (once.Done v) (Tells (Some v))
+  meets : (u : ℕ) → thread p u ≡ thread p who → Rule p who c Go (once.Running u) (Reads c) (once.Running u) Meets
+  returns : (v : ℕ) → Rule p who c (Return v) (once.Running who) (Runs c) (once.Running who) (Ends c (Some v))
+  throws : Rule p who c Throw (once.Running who) (Runs c) (once.Running who) (Ends c None)
+  stores : (v : ℕ) → Rule p who c Go (once.Running who) (Ends c (Some v)) (once.Done v) (Tells (Some v))
+  fails : Rule p who c Go (once.Running who) (Ends c None) once.Empty (Tells None)
 
 -- cells stay what they are, but for this one
 abbrev pub OthersStay : Protocol → ℕ → Protocol → Type 0
@@ -84,8 +85,14 @@ pub data IsExchange (c : ℕ) : Pos → Type 0 where
   store : (r : Option ℕ) → IsExchange c (Store c r)
   swap : (r : Option ℕ) (latch : ℕ) → IsExchange c (Swap c r latch)
 
--- an accessor's step: nothing is seen of it, or it begins to read, or it makes a move on its cell, which changes at an exchange alone
-pub data Follows (p : Protocol) (who : ℕ) (act : Act) (q : Protocol) : Type 0 where
-  silent : ((d : ℕ) → abstract_of q d ≡ abstract_of p d) → task (stands q who) ≡ task (stands p who) → Follows p who act q
-  begins : (c : ℕ) → act ≡ Read c → ((d : ℕ) → abstract_of q d ≡ abstract_of p d) → has_ended (stands p who) ≡ true → task (stands q who) ≡ Reads c → Follows p who act q
-  moves : (c : ℕ) → OthersStay p c q → Rule p who c (abstract_of p c) (task (stands p who)) (abstract_of q c) (task (stands q who)) → ((abstract_of q c ≡ abstract_of p c → ⊥) → IsExchange c (stands p who)) → Follows p who act q
+-- what is seen of an accessor's step by an act: nothing, or that it begins to read, or a move on its cell, which changes at an exchange alone
+pub data Shows (p : Protocol) (who : ℕ) (act : Act) (q : Protocol) : Type 0 where
+  silent : act ≡ Go → ((d : ℕ) → abstract_of q d ≡ abstract_of p d) → task (stands q who) ≡ task (stands p who) → Shows p who act q
+  begins : (c : ℕ) → act ≡ Read c → ((d : ℕ) → abstract_of q d ≡ abstract_of p d) → has_ended (stands p who) ≡ true → task (stands q who) ≡ Reads c → Shows p who act q
+  moves : (c : ℕ) → OthersStay p c q → Rule p who c act (abstract_of p c) (task (stands p who)) (abstract_of q c) (task (stands q who)) → ((abstract_of q c ≡ abstract_of p c → ⊥) → IsExchange c (stands p who)) → Shows p who act q
+
+-- an accessor's step by the rules: the others stand where they stood, and all threads stay
+pub record Follows (p : Protocol) (who : ℕ) (act : Act) (q : Protocol) : Type 0 where
+  pub shows : Shows p who act q
+  pub others : (u : ℕ) → (u ≡ who → ⊥) → stands q u ≡ stands p u
+  pub threads : q.threads ≡ p.threads

@@ -1,6 +1,6 @@
 -- What is promised of the protocol, over lists of acts.
-use Rattle.std.specs.Prelude.{◌≡◌, ℕ, ◌+◌, ◌<◌, ◌⊎◌, List, [], ◌∷◌, false, nat_eq, if◌then◌else◌, Option, length, replicate}
-use Rattle.lz_proto.specs.declared.pos.Pos.TheVariants.{Open, Sleep}
+use Rattle.std.specs.Prelude.{◌≡◌, ℕ, ◌+◌, ◌<◌, List, [], ◌∷◌, Bool, false, nat_eq, if◌then◌else◌, length, replicate}
+use Rattle.lz_proto.specs.declared.pos.Pos.{Pos}
 use Rattle.lz_proto.specs.declared.pos.Pos.TheVariants as pos
 use Rattle.lz_proto.specs.declared.state.State.TheVariants as state
 use Rattle.lz_proto.specs.declared.once.Once.{Once}
@@ -8,10 +8,10 @@ use Rattle.lz_proto.specs.declared.once.Once.TheVariants as once
 use Rattle.lz_proto.specs.declared.stepped.Stepped.{Stepped}
 use Rattle.lz_proto.specs.declared.stepped.Stepped.TheVariants as stepped
 use Rattle.lz_proto.specs.declared.act.Act.{Act}
-use Rattle.lz_proto.specs.declared.act.Act.TheVariants.{Read}
-use Rattle.lz_proto.specs.Protocol.{Protocol, position, is_open}
+use Rattle.lz_proto.specs.declared.act.Act.TheVariants.{Read, Return}
+use Rattle.lz_proto.specs.Protocol.{Protocol, position}
 use Rattle.lz_proto.specs.Steps.{Outcome, Moves, Waits, Refuses, acted}
-use Rattle.lz_proto.specs.Once.{abstract_of}
+use Rattle.lz_proto.specs.Once.{abstract_of, Follows}
 
 -- the state behind an act; one that doesn't move changes nothing
 abbrev pub after : Protocol → Outcome → Protocol
@@ -57,10 +57,31 @@ unfoldable pub changes : ℕ → Protocol → List (ℕ × Act) → ℕ
 changes c p [] = 0
 changes c p (a ∷ acts) = differ (abstract_of p c) (abstract_of (after p (acted p a.0 a.1)) c) + changes c (after p (acted p a.0 a.1)) acts
 
--- where an accessor waits, its latch is closed, and its cell is running or some accessor is about to open the latch
-abbrev pub WaitsWell : Protocol → ℕ → Type 0
-WaitsWell p who =
-    (c : ℕ) × (latch : ℕ) × (position p who ≡ Sleep c latch) × (is_open p latch ≡ false) × (((u : ℕ) × (abstract_of p c ≡ once.Running u)) ⊎ ((u : ℕ) × (r : Option ℕ) × (position p u ≡ Open latch r)))
+-- how many acts of a list move
+unfoldable pub moves : Protocol → List (ℕ × Act) → ℕ
+moves p [] = 0
+moves p (a ∷ acts) = if_moved (acted p a.0 a.1) + moves (after p (acted p a.0 a.1)) acts
+
+-- the same of an answer
+abbrev pub count_of : Stepped → ℕ
+count_of stepped.Moved = 1
+count_of stepped.Waits = 0
+count_of stepped.Wrong = 0
+
+-- each act of a list that moves is a step by the rules
+unfoldable pub AllFollow : Protocol → List (ℕ × Act) → Type 0
+AllFollow p [] = Unit {0}
+AllFollow p (a ∷ acts) = ((q : Protocol) → acted p a.0 a.1 ≡ Moves q → Follows p a.0 a.1 q) × AllFollow (after p (acted p a.0 a.1)) acts
+
+-- the initialiser of this cell returns a value by this act of an accessor that stands here
+abbrev pub is_return : ℕ → Pos → Act → Bool
+is_return c (pos.Body d) (Return v) = nat_eq d c
+is_return c at act = false
+
+-- how often the initialiser of a cell returns a value in a list of acts
+unfoldable pub returned : ℕ → Protocol → List (ℕ × Act) → ℕ
+returned c p [] = 0
+returned c p (a ∷ acts) = (if is_return c (position p a.0) a.1 then 1 else 0) + returned c (after p (acted p a.0 a.1)) acts
 
 -- a new state: all cells are empty, no accessor has begun, and there is no latch
 abbrev pub IsNew : ℕ → List ℕ → Protocol → Type 0

@@ -53,9 +53,9 @@ module _ (p : Protocol) (who : ℕ) where
   claims c Empty = writes c (Evaluating (thread p who)) (Body c)
   claims c other = goes (Look c)
 
-  -- it makes a latch that names this thread
+  -- it makes a latch that names this thread, where there is room for one
   abbrev pub marks : ℕ → ℕ → Outcome
-  marks c t = Moves (record p { opened = p.opened ++ false ∷ []; owner = p.owner ++ t ∷ []; at = slice_set p.at who (Place c (length p.opened)); spare = p.spare - 1 })
+  marks c t = if nat_lt 0 p.spare then Moves (record p { opened = p.opened ++ false ∷ []; owner = p.owner ++ t ∷ []; at = slice_set p.at who (Place c (length p.opened)); spare = p.spare - 1 }) else Refuses
 
   -- it exchanges `Evaluating` of the latch's thread for the latch
   abbrev pub places : ℕ → ℕ → State → Outcome

@@ -7,12 +7,13 @@ mod once;
 mod pos;
 mod proto;
 mod reading;
+mod running;
 mod state;
 mod stepped;
 mod stepping;
 
 pub use act::Act;
-pub use laws::{reads, steps, waiting};
+pub use laws::{beginning, cycles, freeing, reads, refusals, steps, waiting, written};
 pub use once::Once;
 pub use pos::Pos;
 pub use proto::Proto;

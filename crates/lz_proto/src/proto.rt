@@ -1,6 +1,6 @@
 //! The protocol's state.
 
-ghost use Rattle.std.specs.Prelude.{◌≡◌, ◌<◌, ◌++◌, [], ◌∷◌, ◌-◌, ℕ, Option, true, false, length, slice_set, get_or, nat_lt, ◌≤◌, ◌^◌, IfOk, OnOk, OnErr};
+ghost use Rattle.std.specs.Prelude.{◌≡◌, ◌<◌, ◌++◌, [], ◌∷◌, ◌-◌, ℕ, Option, true, false, length, slice_set, get_or, nat_lt, ◌^◌, max, IfOk, OnOk, OnErr};
 ghost use Rattle.lz_proto.specs.Protocol.{Protocol, content, position, thread, is_open, named};
 ghost use Rattle.lz_proto.specs.Kept.{IsKept};
 ghost use Rattle.lz_proto.specs.Once.{first_inside};
@@ -39,9 +39,11 @@ impl Model for Proto {
 impl Proto {
     /// Cells that are empty, and an accessor for each of these threads, which hasn't begun.
     pub fn new(alloc: Global, cells: u32, threads: &[u32]) -> Result<Proto, NoMemory>
-        requires { length threads.now < 2 ^ 32 }
         ensures { IfOk result (λ p. IsNew cells threads.now p) }
     {
+        if threads.len() > u32::MAX as usize {
+            return Err(NoMemory);
+        }
         Ok(Proto {
             cells: vec![in alloc; State::Empty; cells as usize]?,
             opened: Vec::new(alloc),
@@ -52,19 +54,20 @@ impl Proto {
         })
     }
 
-    /// Makes room for so many latches, or changes nothing.
+    /// Makes room for at least so many latches, or changes nothing.
     pub fn reserve(&mut self, latches: u32) -> Result<(), NoMemory>
-        ensures ok { OnOk result ((latches ≤ self.new.spare) × (self.new ≡ record self.old { spare = self.new.spare })) }
+        ensures ok { OnOk result (self.new ≡ record self.old { spare = max self.old.spare latches }) }
         ensures err { OnErr result (self.new ≡ self.old) }
     {
+        if latches <= self.spare {
+            return Ok(());
+        }
         if latches as usize > u32::MAX as usize - self.opened.len() {
             return Err(NoMemory);
         }
         self.opened.reserve(latches as usize)?;
         self.owner.reserve(latches as usize)?;
-        if self.spare < latches {
-            self.spare = latches;
-        }
+        self.spare = latches;
         Ok(())
     }
 
@@ -80,6 +83,14 @@ impl Proto {
         who
     }
 
+    /// What every state keeps, and the bound on its room.
+    pub(crate) fn kept(&self)
+        ensures kept { IsKept self.now }
+        ensures room { self.now.spare < 2 ^ 32 }
+    {
+        let _ = &self.spare;
+    }
+
     /// How many cells there are.
     pub fn cells(&self) -> usize
         ensures { result ≡ length self.now.cells }
@@ -92,6 +103,13 @@ impl Proto {
         ensures { result ≡ length self.now.at }
     {
         self.at.len()
+    }
+
+    /// How many latches were made.
+    pub fn latches(&self) -> usize
+        ensures { result ≡ length self.now.opened }
+    {
+        self.opened.len()
     }
 
     /// How many latches may still be made.

@@ -4,7 +4,10 @@ ghost use Rattle.std.specs.Prelude.{◌≡◌, ◌<◌, ℕ, length, Option};
 ghost use Rattle.lz_proto.specs.Protocol.{content, position, thread, is_open, named};
 ghost use Rattle.lz_proto.specs.Steps.{acted, next, read, finish, looked, claims, places, sleeps, stores, takes, swaps, opens, result_of, ended};
 ghost use Rattle.lz_proto.specs.Kept.{IsKept};
+ghost use Rattle.lz_proto.specs.Once.{Follows};
+ghost use Rattle.lz_proto.specs.Causes.{WaitsWell, IsBarred, IsWrong};
 ghost use Rattle.lz_proto.specs.Promises.{Answers};
+ghost use Rattle.lz_proto.specs.declared.stepped.Stepped.TheVariants as stepped;
 ghost use Rattle.lz_proto.specs.declared.pos.Pos.TheVariants as pos;
 
 use crate::act::Act;
@@ -35,8 +38,21 @@ fn end_of(ended_with: Option<u64>) -> Pos
 
 impl Proto {
     /// An act of an accessor. `Waits` comes exactly where it awaits a closed latch; `Wrong` exactly where it stands where it
-    /// can't do this, or there is no such cell; nothing changes then.
+    /// can't do this, or there is no such cell; nothing changes then. Each other step is one by the rules of cells.
     pub fn step(&mut self, who: u32, act: Act) -> Stepped
+        requires there { who < length self.old.at }
+        requires room { (c t : ℕ) → position self.old who ≡ pos.Mark c t → 0 < self.old.spare }
+        ensures done { Answers result (acted self.old who act) self.old self.new }
+        ensures moved { result ≡ stepped.Moved → Follows self.old who act self.new }
+        ensures waits { (result ≡ stepped.Waits → WaitsWell self.old who) × (IsBarred self.old who act → result ≡ stepped.Waits) }
+        ensures wrong { (result ≡ stepped.Wrong → IsWrong self.old who act) × (IsWrong self.old who act → result ≡ stepped.Wrong) }
+    {
+        self.kept();
+        self.make_act(who, act)
+    }
+
+    /// What comes of an act.
+    fn make_act(&mut self, who: u32, act: Act) -> Stepped
         requires there { who < length self.old.at }
         requires room { (c t : ℕ) → position self.old who ≡ pos.Mark c t → 0 < self.old.spare }
         ensures { Answers result (acted self.old who act) self.old self.new }

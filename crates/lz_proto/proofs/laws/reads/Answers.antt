@@ -1,9 +1,8 @@
-use Rattle.lz_proto.proofs.Pace.{read_paced}
-use Rattle.lz_proto.proofs.Serving.{got_is_done}
+use Rattle.lz_proto.proofs.Pace.{read_paced, read_value}
 use Rattle.lz_proto.proofs.laws.reads.Goals as goal
 
 pub returns-clause-pace : goal.returns-clause-pace
 returns-clause-pace c = read_paced
 
 pub returns-clause-value : goal.returns-clause-value
-returns-clause-value c = got_is_done
+returns-clause-value c = read_value

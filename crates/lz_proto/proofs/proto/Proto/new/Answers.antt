@@ -13,7 +13,7 @@ invariant_of-result c =
     let opened : c.new.result.items ≡ [] = search rules in
     let owner : c.new-2.result.items ≡ [] = search rules in (
       rw (cells, at, threads, opened, owner) (new_kept c.args.cells c.args.threads.now),
-      rw (at, length-replicate (length c.args.threads.now) pos.Idle) c.requires,
+      rw (at, length-replicate (length c.args.threads.now) pos.Idle) omega (arith, c.if-threads.false),
       rw opened (omega arith),
       rw opened (omega arith),
       rw opened (omega arith),

@@ -1,8 +1,9 @@
 use Rattle.std.proofs.Common.{refl}
 use Rattle.lz_proto.specs.declared.pos.Pos.TheVariants as pos
 use Rattle.lz_proto.proofs.Acting.{relied, goes_on}
+use Rattle.lz_proto.proofs.Own.{stands_kept}
 use Rattle.lz_proto.proofs.proto.Proto.sleep.Goals as goal
 
 pub stand-requires-clause-kept : goal.stand-requires-clause-kept
 stand-requires-clause-kept c =
-    goes_on c.args.self.now c.requires.kept.0 c.requires.kept.1 c.args.who c.requires.there (pos.Sleep c.args.cell c.args.latch) (pos.Look c.args.cell) c.requires.at refl (λ d. refl) (relied c.args.self.now c.requires.kept.0 c.requires.kept.1 c.args.who c.requires.there (pos.Sleep c.args.cell c.args.latch) c.requires.at).0 _ refl
+    stands_kept c.args.self.now c.requires.kept c.args.who c.requires.there (pos.Look c.args.cell) refl (goes_on c.args.self.now c.requires.kept.0 c.requires.kept.1 c.args.who c.requires.there (pos.Sleep c.args.cell c.args.latch) (pos.Look c.args.cell) c.requires.at refl (λ d. refl) (relied c.args.self.now c.requires.kept.0 c.requires.kept.1 c.args.who c.requires.there (pos.Sleep c.args.cell c.args.latch) c.requires.at).0 _ refl)
