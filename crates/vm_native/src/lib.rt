@@ -5,6 +5,7 @@ mod boxes;
 mod latches;
 mod objects;
 mod results;
+mod strings;
 mod throwables;
 
 pub use boxes::{
@@ -13,4 +14,5 @@ pub use boxes::{
 pub use latches::{await_latch, count_down, latch, owned_here};
 pub use objects::{object_equals, object_init};
 pub use results::{give, give_one};
+pub use strings::{concat, println, string_is_empty, string_length};
 pub use throwables::{get_message, thread_init, throwable_init, throwable_init_text};
