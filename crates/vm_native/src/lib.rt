@@ -8,9 +8,7 @@ mod results;
 mod strings;
 mod throwables;
 
-pub use boxes::{
-    box_boolean, box_int, box_long, unbox_boolean, unbox_int, unbox_long,
-};
+pub use boxes::{box_boolean, box_int, box_long, unbox_boolean, unbox_int, unbox_long};
 pub use latches::{await_latch, count_down, latch, owned_here};
 pub use objects::{object_equals, object_init};
 pub use results::{give, give_one};
