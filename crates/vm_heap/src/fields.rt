@@ -1,25 +1,15 @@
 //! Fields (JVMS 6.5: getfield, putfield).
 
-ghost use Rattle.std.specs.Prelude.{◌≡◌, ◌∷◌, ◌<◌, ◌≤◌, length, drop, slice_get};
+ghost use Rattle.std.specs.Prelude.{◌≡◌, ◌<◌, length, drop};
 ghost use Rattle.std.specs.Option.{option_copied};
-ghost use Rattle.vm_state.specs.Heaps.{field_at, with_field};
-ghost use Rattle.vm_state.specs.Shared.{Shares, got, is_slot_of, has_field, gets_field, field_named, get_field, fits_slot, written, puts_field, field_put, put_field};
+ghost use Rattle.vm_state.specs.Heaps.{field_at};
+ghost use Rattle.vm_state.specs.Shared.{Shares, got, is_slot_of, has_field, gets_field, field_named, get_field, fits_slot, puts_field, field_put, put_field};
 
 use cf_link::built_in::NULL_POINTER_EXCEPTION;
 use cf_link::{Linked, LinkedRef, Slot, slots_of};
-use vm_state::{Effect, Frame, Heap, HeapEffect, Object, StuckKind, Value, pop_off, replace_top};
-
-fn field_at(h: &Heap, at: u32, n: u32) -> Option<Value>
-    ensures { result ≡ field_at h.now at n }
-{
-    match h.objects.get(at as usize) {
-        Some(o) => match o.fields.get(n as usize) {
-            Some(v) => Some(*v),
-            None => None,
-        },
-        None => None,
-    }
-}
+use vm_state::{
+    Effect, Frame, Heap, HeapEffect, StuckKind, Value, field_at, replace_top, write_field,
+};
 
 /// Puts what a field holds in the place of its object.
 fn read(h: &Heap, f: &mut Frame, v: Option<Value>) -> HeapEffect
@@ -104,30 +94,6 @@ fn fits_slot(slot: Option<&Slot>, v: Value) -> bool
     }
 }
 
-fn set_field(o: &mut Object, n: u32, v: Value)
-    requires { n < length o.old.fields }
-    ensures { o.new ≡ with_field o.old n v }
-{
-    *o.fields.at_mut(n as usize) = v;
-}
-
-fn write(h: &mut Heap, f: &mut Frame, at: u32, n: u32, v: Value) -> HeapEffect
-    requires { f.old.pc < 65535 }
-    ensures { Shares (written h.old f.old at n v (drop 2 f.old.stack.values) (slice_get h.old.objects at)) result h.old h.new f.old f.new }
-{
-    match h.objects.get(at as usize) {
-        None => return HeapEffect::Stuck(StuckKind::WrongKind),
-        Some(o) => {
-            if n as usize >= o.fields.len() {
-                return HeapEffect::Stuck(StuckKind::WrongKind);
-            }
-        }
-    }
-    set_field(h.objects.at_mut(at as usize), n, v);
-    pop_off(f, 2);
-    HeapEffect::Done
-}
-
 fn puts_field(
     k: &Linked,
     h: &mut Heap,
@@ -143,7 +109,7 @@ fn puts_field(
     match o {
         Value::Ref { at, class: of } => {
             if has_field(k, of, class, n) {
-                write(h, f, at, n, v)
+                write_field(h, f, at, n, v)
             } else {
                 HeapEffect::Stuck(StuckKind::WrongKind)
             }

@@ -11,4 +11,4 @@ mod texts;
 pub use fields::{get_field, put_field};
 pub use initialising::readiness;
 pub use needing::{gets_static, makes, puts_static};
-pub use texts::{if_same_texts, same_texts};
+pub use texts::if_same_texts;

@@ -4,27 +4,16 @@ ghost use Rattle.std.specs.Prelude.{◌≡◌, ◌<◌, IfOk, map};
 ghost use Rattle.vm_state.specs.Heaps.{default, blank};
 ghost use Rattle.vm_state.specs.Shared.{Shares, IsPlain, make};
 
-use cf_link::{Linked, Slot, ValueKind, slots_of};
+use cf_link::{Linked, Slot, slots_of};
 use std::alloc::{AllocError, Global};
-use vm_state::{Frame, Heap, HeapEffect, Object, Seq, StuckKind, Value};
-
-/// What a field or static holds at first.
-fn default(kind: ValueKind) -> Value
-    ensures { result ≡ default kind }
-{
-    match kind {
-        ValueKind::Int => Value::Int(0),
-        ValueKind::Long => Value::Long(0),
-        ValueKind::Reference => Value::Null,
-    }
-}
+use vm_state::{Frame, Heap, HeapEffect, Object, Seq, StuckKind, Value, default_value};
 
 fn defaults(alloc: Global, slots: &[Slot]) -> Result<Seq<Value>, AllocError>
     ensures { IfOk result (λ fields. fields ≡ map (λ slot. default slot.kind) slots.now) }
 {
     let mut fields = Seq::with_room(alloc, slots.len())?;
     for slot in slots {
-        fields.push(default(slot.kind))?;
+        fields.push(default_value(slot.kind))?;
     }
     Ok(fields)
 }

@@ -8,12 +8,9 @@ ghost use Rattle.vm_state.specs.Methods.{are_arguments, is_of, ref_at};
 ghost use Rattle.vm_state.specs.Local.{aims, aimed, selected, selection, received, invoked_on, invoked_as, invoked};
 
 use cf_form::Code;
-use cf_link::{
-    Linked, LinkedMethod, LinkedRef, Native, ValueKind, chosen, conforms, is_static, method_at,
-    methods_of, target,
-};
+use cf_link::{Linked, LinkedMethod, LinkedRef, Native, ValueKind, is_static, method_at};
 use vm_state::{
-    Effect, Frame, Invocation, Operands, StuckKind, Target, Value, class_of, is_of, ref_at,
+    Effect, Frame, Invocation, StuckKind, Target, Value, are_arguments, class_of, ref_at, selection,
 };
 
 #[inline(always)]
@@ -50,39 +47,6 @@ fn select(k: &Linked, f: &Frame, count: usize, found: Option<(u32, u32)>) -> Eff
     }
 }
 
-/// The method that a class selects for one of a class or interface.
-fn chosen_at(k: &Linked, class: u32, of: u32, number: u32) -> Option<(u32, u32)>
-    ensures { result ≡ chosen_at k.now.classes class of number }
-{
-    let classes = k.classes.as_slice();
-    if conforms(classes, class, of) && (number as usize) < methods_of(classes, of).len() {
-        target(k, class, of, number)
-    } else {
-        chosen_by_name(k, class, of, number)
-    }
-}
-
-/// The same, found by name, for an object of a class that doesn't conform.
-fn chosen_by_name(k: &Linked, class: u32, of: u32, number: u32) -> Option<(u32, u32)>
-    ensures { result ≡ chosen_at k.now.classes class of number }
-{
-    match method_at(k.classes.as_slice(), of, number) {
-        Some(m) => chosen(k.classes.as_slice(), class, m),
-        None => None,
-    }
-}
-
-/// The method that runs: the one that is named, or the one that the object's class selects.
-#[inline(always)]
-fn selection(k: &Linked, how: Invocation, class: u32, of: u32, number: u32) -> Option<(u32, u32)>
-    ensures { result ≡ selection k.now how class of number }
-{
-    match how {
-        Invocation::Special => Some((of, number)),
-        _ => chosen_at(k, class, of, number),
-    }
-}
-
 #[inline(always)]
 fn receive(
     k: &Linked,
@@ -100,21 +64,6 @@ fn receive(
     }
     let found = selection(k, how, class_of(v), of, number);
     select(k, f, count, found)
-}
-
-/// Whether the operands are arguments of these kinds, the last on top.
-#[inline(always)]
-pub fn are_arguments(kinds: &[ValueKind], stack: &Operands) -> bool
-    ensures { result ≡ are_arguments kinds.now stack.now.values }
-{
-    let mut left = kinds.len();
-    for kind in kinds {
-        left -= 1;
-        if !is_of(*kind, stack.get(left)) {
-            return false;
-        }
-    }
-    true
 }
 
 #[inline(always)]

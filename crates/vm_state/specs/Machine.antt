@@ -1,13 +1,15 @@
 -- The machine: its first state, a step of a thread, whom a thread waits for and where, as a system of threads that share a
 -- heap (JVMS 2.5, 5.5, 6).
-use Rattle.std.specs.Prelude.{ℕ, ◌&&◌, ◌||◌, Bool, true, false, if◌then◌else◌, nat_eq, List, [], ◌∷◌, ◌++◌, codes, map, Option, Some, None, slice_get}
+use Rattle.std.specs.Prelude.{ℕ, ◌&&◌, ◌||◌, Bool, true, false, if◌then◌else◌, nat_eq, List, [], ◌∷◌, ◌++◌, take, drop, codes, map, Option, Some, None, slice_get}
 use Rattle.std.specs.Str.{bytes_eq}
 use Rattle.runs.specs.System.{Next, Goes, Waits, Ended, Stuck, System}
 use Rattle.runs.specs.SharedHeap.{SharedHeap, HeapState, Stepped, system_of}
 use Rattle.ty_prog.specs.declared.event.Event.{Event}
 use Rattle.cf_form.specs.declared.code.Code.{Code}
 use Rattle.cf_form.specs.declared.instr.Instr.{Instr}
+use Rattle.cf_link.specs.declared.built_in.TheConstants.{BUILT_INS}
 use Rattle.cf_link.specs.declared.linked.Linked.{Linked}
+use Rattle.cf_link.specs.declared.linked_class.LinkedClass.{LinkedClass}
 use Rattle.cf_link.specs.declared.member.LinkedMethod.{LinkedMethod}
 use Rattle.cf_link.specs.declared.native.Native.{Native}
 use Rattle.cf_link.specs.declared.native.Native.TheVariants as native
@@ -86,14 +88,17 @@ next_by h t (able.Stuck kind) = Stuck
 abbrev pub vm_next : VmAfter → Next (Stepped Heap Thread)
 vm_next a = next_by a.heap a.thread a.ability
 
--- ---- the first state: thread 1 at `Main.main`, no object, no class initialised
+-- ---- the first state: thread 1 at `Main.main`, no object; the built-in classes are ready, and no other is initialised
+
+abbrev pub first_inits : List LinkedClass → List Init
+first_inits classes = map (λ c. init.Ready) (take BUILT_INS classes) ++ map (λ c. init.NotYet) (drop BUILT_INS classes)
 
 abbrev pub first_heap : Linked → Heap
 first_heap k = record {
   objects = [];
   texts = k.texts;
   statics = map (λ c. map (λ field. default field.kind) c.statics) k.classes;
-  inits = map (λ c. init.NotYet) k.classes;
+  inits = first_inits k.classes;
   opened = [];
   born = None ∷ [];
   trace = [];

@@ -30,7 +30,7 @@ use Rattle.vm_state.specs.Instructions.{next, pushed}
 use Rattle.vm_state.specs.Methods.{code_of, class_of}
 use Rattle.vm_state.specs.Local.{truth, frame_of}
 use Rattle.vm_state.specs.Heaps.{with_text, field_at, set_field, simple_name}
-use Rattle.vm_state.specs.Shared.{Shared, rests, goes_on, same_texts}
+use Rattle.vm_state.specs.Shared.{Shared, rests, goes_on, written, same_texts}
 
 -- ---- what a method leaves
 
@@ -159,14 +159,10 @@ abbrev pub is_object_of : Linked → ℕ → Value → Bool
 is_object_of k class (value.Ref at of) = conforms k.classes of class
 is_object_of k class v = false
 
-abbrev pub sets : Heap → Frame → ℕ → ℕ → Value → List Value → Option Object → Shared
-sets h f at n v vs None = wrong h f
-sets h f at n v vs (Some o) = if nat_lt n (length o.fields) then ends (set_field h at o n v) f vs else wrong h f
-
 -- a field of an object of this class is set
 abbrev pub sets_of : Linked → Heap → Frame → ℕ → ℕ → Value → Value → List Value → Shared
 sets_of k h f class n v (value.Ref at of) vs =
-    if conforms k.classes of class then sets h f at n v vs (slice_get h.objects at) else wrong h f
+    if conforms k.classes of class then written h f at n v vs (slice_get h.objects at) else wrong h f
 sets_of k h f class n v o vs = wrong h f
 
 abbrev pub holds_at : Heap → Frame → List Value → Option Value → Shared
@@ -194,14 +190,24 @@ abbrev pub message_in : Heap → Option Value → Option (List ℕ)
 message_in h (Some (value.Text at)) = slice_get h.texts at
 message_in h v = None
 
-abbrev pub message_text : Option (List ℕ) → List ℕ
-message_text None = []
-message_text (Some message) = codes ": " ++ message
+-- two texts joined; a text has at most 1,000,000 UTF-16 units
+abbrev pub joined_text : List ℕ → List ℕ → Option (List ℕ)
+joined_text a b = if nat_lt 1000000 (units a + units b) then None else Some (a ++ b)
+
+-- a new text as the result, or an exception where it would be too long
+abbrev pub gives_or_fails : Heap → Frame → List Value → Option (List ℕ) → Shared
+gives_or_fails h f vs None = rests h f (Fail OUT_OF_MEMORY_ERROR)
+gives_or_fails h f vs (Some text) = gives_text h f vs text
+
+-- the name of the class, and where there is a message `: ` and the message
+abbrev pub throwable_text : Linked → ℕ → Option (List ℕ) → Option (List ℕ)
+throwable_text k of None = Some (class_text k of)
+throwable_text k of (Some message) = joined_text (class_text k of ++ codes ": ") message
 
 abbrev pub throwable_to_string : Linked → Heap → Frame → List Value → Shared
 throwable_to_string k h f (value.Ref at of ∷ vs) =
     if conforms k.classes of THROWABLE
-    then gives_text h f vs (class_text k of ++ message_text (message_in h (field_at h at 0)))
+    then gives_or_fails h f vs (throwable_text k of (message_in h (field_at h at 0)))
     else wrong h f
 throwable_to_string k h f (v ∷ vs) = wrong h f
 throwable_to_string k h f [] = few h f
@@ -398,10 +404,8 @@ text k h f (value.Null ∷ vs) = gives_text h f vs (codes "null")
 text k h f (v ∷ vs) = if is_text v || is_box v then told k h f vs v else miscast h f
 text k h f [] = few h f
 
--- a text has at most 1,000,000 UTF-16 units
 abbrev pub joined : Heap → Frame → List Value → Option (List ℕ) → Option (List ℕ) → Shared
-joined h f vs (Some a) (Some b) =
-    if nat_lt 1000000 (units a + units b) then rests h f (Fail OUT_OF_MEMORY_ERROR) else gives_text h f vs (a ++ b)
+joined h f vs (Some a) (Some b) = gives_or_fails h f vs (joined_text a b)
 joined h f vs a b = wrong h f
 
 abbrev pub may_be_text : Value → Bool

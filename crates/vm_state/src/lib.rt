@@ -4,6 +4,7 @@
 mod action;
 mod action_rows;
 mod actions;
+mod contents;
 mod entering;
 mod frame;
 mod going;
@@ -13,6 +14,7 @@ mod linkage;
 mod operands;
 mod outcomes;
 mod pushes;
+mod selecting;
 mod seq;
 mod stack;
 mod target;
@@ -21,6 +23,7 @@ mod value;
 
 pub use action::{Action, Comparison, Division, HeapAction, Invocation};
 pub use actions::{ACTIONS, OpAction, action_of};
+pub use contents::{default_value, field_at, same_texts, write_field};
 pub use entering::{begin, enter};
 pub use frame::Frame;
 pub use going::{branch, go, place};
@@ -32,6 +35,7 @@ pub use linkage::{
 pub use operands::Operands;
 pub use outcomes::{Ability, Effect, HeapEffect, HeapMove, LocalStep, Readiness, StuckKind};
 pub use pushes::{pop_off, push, replace_top, skip};
+pub use selecting::{are_arguments, chosen_at, selection};
 pub use seq::Seq;
 pub use stack::Stack;
 pub use target::Target;

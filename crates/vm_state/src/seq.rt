@@ -1,6 +1,6 @@
 //! Lists whose items are changed where they stand.
 
-ghost use Rattle.std.specs.Prelude.{◌≡◌, [], ◌∷◌, ◌++◌, ◌<◌, length, ◌≤◌, slice_get, slice_set, IfOk, MatchOption, OnOk, OnErr, Some};
+ghost use Rattle.std.specs.Prelude.{◌≡◌, [], ◌∷◌, ◌++◌, ◌<◌, length, ◌≤◌, take, slice_get, slice_set, IfOk, MatchOption, OnOk, OnErr, Some};
 ghost use Rattle.std.specs.Option.{option_copied};
 ghost use Rattle.std.specs.Borrow.{sem};
 
@@ -91,5 +91,14 @@ impl<T> Seq<T> {
     {
         self.items.push(item)?;
         Ok(())
+    }
+    /// Keeps so many items at the front, or all.
+    #[inline]
+    pub fn truncate(&mut self, count: usize)
+    where
+        T: Drop,
+        ensures { self.new ≡ take count self.old }
+    {
+        self.items.truncate(count);
     }
 }

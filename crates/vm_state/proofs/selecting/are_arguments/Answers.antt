@@ -2,7 +2,7 @@ use Rattle.std.proofs.Common.{◌≡◌, ◌-◌, ◌∷◌, ◌&&◌, suc, fals
 use Rattle.std.specs.Prelude.{slice_get}
 use Rattle.cf_link.specs.declared.value_kind.ValueKind.TheVariants.{Int}
 use Rattle.vm_state.specs.Methods.{are_arguments, is_of}
-use Rattle.vm_local.proofs.calls.are_arguments.Goals as goal
+use Rattle.vm_state.proofs.selecting.are_arguments.Goals as goal
 
 pub returns-then-not-is_of : goal.returns-then-not-is_of
 returns-then-not-is_of c =

@@ -1,6 +1,6 @@
 use Rattle.std.proofs.Common.{◌≡◌, drop, length}
 use Rattle.vm_state.specs.Methods.{are_arguments}
-use Rattle.vm_local.proofs.calls.are_arguments.Given as goal
+use Rattle.vm_state.proofs.selecting.are_arguments.Given as goal
 
 abbrev pub invariant-loop-kind : goal.invariant-loop-kind
 invariant-loop-kind l = record {

@@ -1,0 +1,12 @@
+use Rattle.std.proofs.Common.{◌++◌, ◌∙◌, ap}
+use Rattle.std.specs.Str.{chars}
+use Rattle.std.proofs.lemmas.Str.{chars-append}
+use Rattle.vm_native.proofs.strings.join.Goals as goal
+
+pub returns : goal.returns
+returns c =
+    c.from_string.ensures
+    ∙ ap chars (c.in_ok-push_str.ensures.bytes ∙ ap (λ l. l ++ c.as_str-2.result.now) c.in_ok-text.ensures.ok)
+    ∙ chars-append c.as_str.result.now c.as_str-2.result.now c.as_str.utf8
+    ∙ ap (λ l. l ++ chars c.as_str-2.result.now) c.as_str.ensures.characters
+    ∙ ap (λ l. c.args.a.now ++ l) c.as_str-2.ensures.characters

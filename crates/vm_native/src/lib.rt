@@ -1,0 +1,16 @@
+//! Built-in methods of the machine (docs/CLASSFILES.md, "Linked sets"; docs/MACHINE.md, "Built-in methods").
+#![tactic(auto)]
+
+mod boxes;
+mod latches;
+mod objects;
+mod results;
+mod strings;
+mod throwables;
+
+pub use boxes::{box_boolean, box_int, box_long, unbox_boolean, unbox_int, unbox_long};
+pub use latches::{await_latch, count_down, latch, owned_here};
+pub use objects::{object_equals, object_init};
+pub use results::{give, give_one};
+pub use strings::{concat, println, string_is_empty, string_length};
+pub use throwables::{get_message, thread_init, throwable_init, throwable_init_text};
