@@ -131,13 +131,6 @@ pub data ComesBefore : LinkKind → ℕ → ℕ → LinkKind → ℕ → ℕ →
 abbrev pub HasNone : List ClassFile → LinkKind → Type 0
 HasNone files of = (i n : ℕ) (told : List ℕ) → ¬ (IsFault files of i n told)
 
--- the first fault of a kind tells this class: it stands in the earliest file, there at the least index
-pub record IsFirstOf (files : List ClassFile) (kind : LinkKind) (told : List ℕ) : Type 0 where
-  pub file : ℕ
-  pub index : ℕ
-  pub is : IsFault files kind file index told
-  pub first : (i n : ℕ) (name : List ℕ) → IsFault files kind i n name → ¬ (ComesBefore kind i n kind file index)
-
 -- the first fault of the files has this kind and tells this class
 pub record IsFirstFault (files : List ClassFile) (kind : LinkKind) (told : List ℕ) : Type 0 where
   pub file : ℕ

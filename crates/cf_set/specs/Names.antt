@@ -11,3 +11,8 @@ with_name names name = if has_text names name then names else names ++ name ∷ 
 -- the number of a name
 abbrev pub number_in : List (List ℕ) → List ℕ → Option ℕ
 number_in names name = position_from (bytes_eq name) 0 names
+
+-- names with others put behind them, one by one
+abbrev pub with_names : List (List ℕ) → List (List ℕ) → List (List ℕ)
+with_names names [] = names
+with_names names (name ∷ more) = with_names (with_name names name) more

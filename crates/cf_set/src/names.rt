@@ -1,6 +1,7 @@
 //! The names of a set's classes, with a way from a name to its number.
 
 ghost use Rattle.std.specs.Prelude.{◌≡◌, not, [], OnOk, IfOk};
+ghost use Rattle.std.specs.Str.{chars};
 ghost use Rattle.cf_link.specs.OfFiles.{has_text};
 ghost use Rattle.cf_set.specs.Names.{with_name, number_in};
 
@@ -11,7 +12,7 @@ use std::marker::Model;
 
 /// Names, no two alike, in the order in which they were put in.
 #[derive(Drop)]
-pub(crate) struct Names {
+pub struct Names {
     set: IndexSet<String>,
 }
 
@@ -29,7 +30,8 @@ impl Model for Names {
 }
 
 impl Names {
-    pub(crate) fn new(alloc: Global) -> Names
+    /// No names.
+    pub fn new(alloc: Global) -> Names
         ensures { result ≡ [] }
     {
         Names {
@@ -38,16 +40,16 @@ impl Names {
     }
 
     /// Puts a name behind the others, and says whether it is new.
-    pub(crate) fn add(&mut self, alloc: Global, name: &Name) -> Result<bool, AllocError>
-        ensures is_new { IfOk result (λ is_new. is_new ≡ not (has_text self.old name.now)) }
-        ensures names { OnOk result (self.new ≡ with_name self.old name.now) }
+    pub fn add(&mut self, alloc: Global, name: &str) -> Result<bool, AllocError>
+        ensures is_new { IfOk result (λ is_new. is_new ≡ not (has_text self.old (chars name.now))) }
+        ensures names { OnOk result (self.new ≡ with_name self.old (chars name.now)) }
     {
-        let text = String::from_str(alloc, name.as_str())?;
+        let text = String::from_str(alloc, name)?;
         Ok(self.set.insert_full(text)?.1)
     }
 
     /// The number of a name.
-    pub(crate) fn number_of(&self, name: &Name) -> Option<usize>
+    pub fn number_of(&self, name: &Name) -> Option<usize>
         ensures { result ≡ number_in self.now name.now }
     {
         self.set.get_index_of(name.as_str())

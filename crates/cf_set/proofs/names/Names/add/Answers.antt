@@ -8,7 +8,7 @@ use Rattle.cf_set.proofs.names.Names.add.Goals as goal
 
 pub returns-clause-is_new : goal.returns-clause-is_new
 returns-clause-is_new c =
-    let name = c.args.name.now in
+    let name = chars c.args.name.now in
     let spells : chars (string_bytes c.in_ok-text.text) ≡ name = search rules in
     let added : c.in_ok-insert_full.field-0.1 ≡ not (has_text (spelled c.self.inside.set.keys) name) =
     c.in_ok-insert_full.ensures.added ∙ ap not (spelled_has c.in_ok-text.text name spells c.self.inside.set.keys) in
@@ -16,7 +16,7 @@ returns-clause-is_new c =
 
 pub returns-clause-names : goal.returns-clause-names
 returns-clause-names c =
-    let name = c.args.name.now in
+    let name = chars c.args.name.now in
     let spells : chars (string_bytes c.in_ok-text.text) ≡ name = search rules in
     ap spelled c.in_ok-insert_full.ensures.keys
     ∙ spelled_with c.in_ok-text.text name spells c.self.inside.set.keys ∙ ap (λ names. with_name names name) c.self.view_is
