@@ -1,5 +1,5 @@
 -- Names and the texts that spell them.
-use Rattle.std.proofs.Common.{◌≡◌, ◌∙◌, ℕ, Bool, List, [], ◌∷◌, ◌++◌, true, false, ◌||◌, cond, if◌then◌else◌, map, String, Option, Some, None, refl, sym, ap, subst, encode_utf8_all, ◌+◌}
+use Rattle.std.proofs.Common.{◌≡◌, ◌∙◌, ℕ, Bool, List, [], ◌∷◌, ◌++◌, true, false, ◌||◌, cond, if◌then◌else◌, map, String, Some, refl, sym, ap, subst, encode_utf8_all, ◌+◌}
 use Rattle.std.specs.Str.{chars, bytes_eq, IsUtf8}
 use Rattle.std.specs.String.{string_bytes, string_eq}
 use Rattle.std.proofs.lemmas.Iterator.Adapters.{position_from-zero}
@@ -7,7 +7,6 @@ use Rattle.indexmap.specs.IndexSet.{insert_key}
 use Rattle.cf_link.specs.OfFiles.{has_text}
 use Rattle.cf_set.specs.Names.{with_name, number_in}
 use Rattle.std.specs.List.{list_any, position, position_from}
-use Rattle.std.specs.Bool.{Decides}
 use Rattle.std.proofs.lemmas.List.{map-append}
 use Rattle.std.proofs.lemmas.Str.{encodes-chars, IsUtf8-string_bytes}
 use Rattle.std.proofs.lemmas.Slice.Eq.{bytes_eq-Decides, slice_eq-Decides}

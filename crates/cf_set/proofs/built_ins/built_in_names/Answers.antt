@@ -1,6 +1,5 @@
 use Rattle.std.proofs.Common.{rules, ◌≡◌, ◌∙◌, ap, [], map}
 use Rattle.std.specs.Str.{chars}
-use Rattle.cf_link.specs.BuiltIns.{built_ins}
 use Rattle.cf_set.specs.Names.{with_names}
 use Rattle.cf_set.proofs.BuiltInNames.{texts, spelled, all}
 use Rattle.cf_set.proofs.built_ins.built_in_names.Goals as goal

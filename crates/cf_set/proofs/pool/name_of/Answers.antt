@@ -1,7 +1,7 @@
-use Rattle.std.proofs.Common.{rules, ◌≡◌, ◌∙◌, List, [], Option, None, ℕ, sym, ap}
+use Rattle.std.proofs.Common.{rules, ◌≡◌, ◌∙◌, [], None, sym, ap}
 use Rattle.std.specs.Option.{unwrap_or}
 use Rattle.std.proofs.lemmas.Str.{chars-nil}
-use Rattle.cf_link.specs.OfFiles.{class_named, name_of}
+use Rattle.cf_link.specs.OfFiles.{class_named}
 use Rattle.cf_set.proofs.pool.name_of.Goals as goal
 
 pub returns-in-None : goal.returns-in-None

@@ -1,4 +1,4 @@
-use Rattle.std.proofs.Common.{rules, ◌≡◌, ◌∙◌, ap, sym, not}
+use Rattle.std.proofs.Common.{rules, ◌≡◌, ◌∙◌, ap, not}
 use Rattle.std.specs.Str.{chars}
 use Rattle.std.specs.String.{string_bytes}
 use Rattle.cf_link.specs.OfFiles.{has_text}

@@ -1,4 +1,4 @@
-use Rattle.std.proofs.Common.{◌≡◌, ◌∙◌, ap}
+use Rattle.std.proofs.Common.{◌∙◌, ap}
 use Rattle.cf_set.proofs.Spelling.{spelled_number}
 use Rattle.cf_set.specs.Names.{number_in}
 use Rattle.cf_set.proofs.names.Names.number_of.Goals as goal
