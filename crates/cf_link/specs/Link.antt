@@ -1,5 +1,5 @@
 -- Which linked set class files make (JVMS 5.3, 5.4).
-use Rattle.std.specs.Prelude.{◌≡◌, ℕ, List, [], ◌++◌, map}
+use Rattle.std.specs.Prelude.{◌≡◌, List, [], ◌++◌, map}
 use Rattle.cf_form.specs.ClassFiles.{Each}
 use Rattle.cf_form.specs.declared.class_file.ClassFile.{ClassFile}
 use Rattle.cf_link.specs.BuiltIns.{built_ins}
