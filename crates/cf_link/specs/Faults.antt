@@ -11,7 +11,7 @@ use Rattle.cf_form.specs.declared.constant.Const.TheVariants as constant
 use Rattle.cf_link.specs.BuiltIns.{built_ins}
 use Rattle.cf_link.specs.Classes.{is_interface_access}
 use Rattle.cf_link.specs.Descriptors.{IsType, IsMethodType}
-use Rattle.cf_link.specs.Link.{class_named, name_of, names_of, has_text, IsAt, Says, AreClasses, IsMain}
+use Rattle.cf_link.specs.OfFiles.{class_named, name_of, names_of, has_text, IsAt, Says, AreClasses, IsMain}
 use Rattle.cf_link.specs.Resolution.{resolved_field, resolved_method}
 use Rattle.cf_link.specs.declared.built_in.TheConstants.{BUILT_INS}
 use Rattle.cf_link.specs.declared.fault.LinkKind.{LinkKind}
@@ -126,6 +126,10 @@ pub data ComesBefore : LinkKind → ℕ → ℕ → LinkKind → ℕ → ℕ →
   kind : (a b : LinkKind) (i j m n : ℕ) → rank a < rank b → ComesBefore a i m b j n
   file : (k : LinkKind) (i j m n : ℕ) → i < j → ComesBefore k i m k j n
   index : (k : LinkKind) (i m n : ℕ) → m < n → ComesBefore k i m k i n
+
+-- the files have no fault of a kind
+abbrev pub HasNone : List ClassFile → LinkKind → Type 0
+HasNone files of = (i n : ℕ) (told : List ℕ) → ¬ (IsFault files of i n told)
 
 -- the first fault of the files has this kind and tells this class
 pub record IsFirstFault (files : List ClassFile) (kind : LinkKind) (told : List ℕ) : Type 0 where

@@ -6,8 +6,9 @@ pub mod Layout
 pub mod Resolution
 pub mod Linked
 pub mod BuiltIns
-pub mod Link
+pub mod OfFiles
 pub mod Faults
+pub mod Link
 -- For proofs only.
 pub mod Places
 pub mod Parsing

@@ -1,0 +1,10 @@
+//! Names of the classes of class files that are to be linked, and what indexes of their pools name (JVMS 4.4, 5.3).
+#![tactic(auto)]
+
+mod built_ins;
+mod names;
+mod pool;
+
+pub use built_ins::built_in_names;
+pub use names::Names;
+pub use pool::{class_named, name_of, text_at};
