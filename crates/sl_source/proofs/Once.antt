@@ -1,5 +1,5 @@
 -- Bytes have one tree or one first fault, and not both, by what the parts of the front end say.
-use Rattle.std.proofs.Common.{◌≡◌, ℕ, List, [], Option, Some, ap, sym, subst, ◌∙◌}
+use Rattle.std.proofs.Common.{◌≡◌, ℕ, List, [], Option, Some, ap, subst, ◌∙◌}
 use Rattle.sl_text.specs.Utf8.{Spells, IsWellFormed, IsIllFormedAt}
 use Rattle.sl_text.specs.Spot.{IsSpot}
 use Rattle.sl_text.specs.declared.span.Span.{Span}
@@ -40,7 +40,6 @@ module _ (lexed_once : (text : List ℕ) (ts us : List Token) → Lex text ts �
     (spelled_once : (bytes xs ys : List ℕ) → Spells bytes xs → Spells bytes ys → xs ≡ ys)
     (place_once : (bytes : List ℕ) (i j : ℕ) → IsIllFormedAt bytes i → IsIllFormedAt bytes j → i ≡ j)
     (formed_or_not : (bytes : List ℕ) (i : ℕ) → IsIllFormedAt bytes i → IsWellFormed bytes → ⊥) where
-
   one_list : (text : List ℕ) (a b : List Token) → AreTokens text a → AreTokens text b → a ≡ b
   one_list text a b x y =
       let e : x.read ≡ y.read = lexed_once text x.read y.read x.lexed y.lexed in

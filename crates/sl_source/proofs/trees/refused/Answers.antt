@@ -1,7 +1,6 @@
-use Rattle.std.proofs.Common.{◌≡◌, ◌⊎◌, inl, inr, ℕ, List, Bool, true, false, true≢false, refl, sym, ◌∙◌, length}
+use Rattle.std.proofs.Common.{◌≡◌, ◌⊎◌, inl, inr, List, Bool, true, false, true≢false, refl, sym, ◌∙◌, length}
 use Rattle.sl_ast.specs.declared.token.Token.{Token}
 use Rattle.sl_parse_tmpl.specs.declared.fault.ParseFault.{ParseFault}
-use Rattle.sl_parse_tmpl.specs.declared.fault.ParseKind.{ParseKind}
 use Rattle.sl_parse_tmpl.specs.declared.fault.ParseKind.TheVariants.{Memory}
 use Rattle.sl_source.specs.Source.{IsParseFault, syntactic}
 use Rattle.sl_source.proofs.trees.refused.Goals as goal
