@@ -1,15 +1,14 @@
 -- Where reading a file stops: at a rest of its tokens, so a fault begins within their characters.
-use Rattle.std.proofs.Common.{◌≡◌, ◌≤◌, ◌⊎◌, inl, inr, ℕ, zero, suc, Bool, List, [], ◌∷◌, ◌++◌, ◌-◌, length, Option, Some, None, Ok, Err, refl, sym, ap, subst, ◌∙◌, arith}
+use Rattle.std.proofs.Common.{◌≡◌, ◌≤◌, ◌⊎◌, inl, inr, ℕ, zero, suc, Bool, List, [], ◌∷◌, ◌++◌, ◌-◌, length, Option, Some, None, Ok, Err, refl, ap, subst, ◌∙◌, arith}
 use Rattle.std.specs.Prelude.{slice_get}
 use Rattle.std.specs.List.{AllByRecursion}
-use Rattle.sl_text.specs.declared.span.Span.{Span}
 use Rattle.sl_ast.specs.declared.token.Token.{Token}
 use Rattle.sl_ast.specs.declared.unit.TopDef.{TopDef}
 use Rattle.sl_ast.specs.declared.unit.Unit as file
-use Rattle.sl_parse_expr.specs.Reading.{Stop, Outcome, State, Reader, and_then, ◌>>=◌, ◌>>◌, pure, head}
+use Rattle.sl_parse_expr.specs.Reading.{Stop, Outcome, and_then, ◌>>◌, pure, head}
 use Rattle.sl_parse_expr.proofs.Theory.{bind_err, err_is, ok_of}
 use Rattle.sl_parse_tmpl.specs.declared.fault.ParseFault.{ParseFault}
-use Rattle.sl_parse_tmpl.specs.Faults.{nesting, empty_at, behind, place, fault_at, kind_of, tree_of, fault_of}
+use Rattle.sl_parse_tmpl.specs.Faults.{nesting, behind, place, fault_at, kind_of, tree_of, fault_of}
 use Rattle.sl_parse_tmpl.specs.Rules.{over, over_by, top_defs, unit}
 use Rattle.sl_parse_tmpl.specs.Trees.{unit_tree}
 use Rattle.sl_parse_tmpl.proofs.Good.{good_top_defs}
