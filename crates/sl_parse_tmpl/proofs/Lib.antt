@@ -1,2 +1,3 @@
 pub mod Ends
 pub mod Good
+pub mod Within

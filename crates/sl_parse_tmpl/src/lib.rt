@@ -6,6 +6,7 @@ mod classes;
 mod definitions;
 mod fault;
 mod last_new;
+mod laws;
 mod members;
 mod modifiers;
 mod params;
@@ -16,4 +17,5 @@ mod values;
 mod words;
 
 pub use fault::{ParseFault, ParseKind};
+pub use laws::placing;
 pub use parsing::parse;

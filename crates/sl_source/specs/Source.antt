@@ -1,14 +1,17 @@
--- What bytes are as a source file: the characters that they spell, and the tokens of these with newlines between them
--- (SLS 1); or the first fault.
-use Rattle.std.specs.Prelude.{ℕ, List}
+-- What bytes are as a source file: the characters that they spell, the tokens of these with newlines between them
+-- (SLS 1), and the tree of the tokens (SLS 4, 5); or the first fault.
+use Rattle.std.specs.Prelude.{◌≡◌, ℕ, List, [], Some}
 use Rattle.sl_text.specs.Utf8.{Spells, IsIllFormedAt}
 use Rattle.sl_text.specs.Spot.{IsSpot}
-use Rattle.sl_text.specs.declared.span.Span.{Span}
 use Rattle.sl_text.specs.declared.spot.Spot.{Spot}
 use Rattle.sl_ast.specs.declared.token.Token.{Token}
-use Rattle.sl_lexer.specs.declared.fault.LexKind.{LexKind}
+use Rattle.sl_ast.specs.declared.unit.Unit as file
+use Rattle.sl_lexer.specs.declared.fault.LexFault.{LexFault}
 use Rattle.sl_lexer.specs.Lex.{Lex, Fault}
 use Rattle.sl_newline.specs.Regions.{Separated}
+use Rattle.sl_parse_tmpl.specs.declared.fault.ParseFault.{ParseFault}
+use Rattle.sl_parse_tmpl.specs.Faults.{nesting, tree_of, fault_of}
+use Rattle.sl_parse_tmpl.specs.Rules as rules_
 use Rattle.sl_source.specs.declared.refusal.Refusal.{Refusal}
 use Rattle.sl_source.specs.declared.refusal.Refusal.TheVariants as refusal
 use Rattle.sl_source.specs.declared.refusal.SourceFault.{SourceFault}
@@ -20,21 +23,37 @@ pub record AreTokens (text : List ℕ) (tokens : List Token) : Type 0 where
   pub lexed : Lex text read
   pub separated : Separated text read tokens
 
--- the bytes spell a text that has these tokens
-abbrev pub HasTokens : List ℕ → List Token → Type 0
-HasTokens bytes tokens = (text : List ℕ) × Spells bytes text × AreTokens text tokens
+-- the tree of tokens, and why they have none, by the rules of files
+abbrev pub IsTree : List Token → file.Unit → Type 0
+IsTree tokens tree = Some tree ≡ tree_of (rules_.unit nesting ([], tokens))
 
--- the first fault of a text, at the line and the column of its first character
+abbrev pub IsParseFault : List Token → ParseFault → Type 0
+IsParseFault tokens fault = Some fault ≡ fault_of tokens (rules_.unit nesting ([], tokens))
+
+-- the text has tokens with this tree
+pub record HasTree (text : List ℕ) (tree : file.Unit) : Type 0 where
+  pub tokens : List Token
+  pub are_tokens : AreTokens text tokens
+  pub is_tree : IsTree tokens tree
+
+-- the bytes spell a text that has this tree
+abbrev pub IsSource : List ℕ → file.Unit → Type 0
+IsSource bytes tree = (text : List ℕ) × Spells bytes text × HasTree text tree
+
+-- the fault of a text, at the line and the column of its first character: one of tokens, or one of the tree where the
+-- text has tokens
 pub data FirstInText (text : List ℕ) : Refusal → Type 0 where
-  lexical : {kind : LexKind} {span : Span} {spot : Spot}
-      → Fault text kind span → IsSpot text span.from spot.line spot.column → FirstInText text (refusal.Lex kind spot)
+  lexical : {fault : LexFault} {spot : Spot} → Fault text fault.kind fault.span
+      → IsSpot text fault.span.from spot.line spot.column → FirstInText text (refusal.Lex fault spot)
+  syntactic : {fault : ParseFault} {spot : Spot} (tokens : List Token) → AreTokens text tokens → IsParseFault tokens fault
+      → IsSpot text fault.span.from spot.line spot.column → FirstInText text (refusal.Parse fault spot)
 
 -- the first fault of the bytes: one of a text stands only where they spell it
 pub data FirstFault (bytes : List ℕ) : Refusal → Type 0 where
   not_utf8 : {at : ℕ} → IsIllFormedAt bytes at → FirstFault bytes (refusal.NotUtf8 at)
   in_text : {text : List ℕ} {r : Refusal} → Spells bytes text → FirstInText text r → FirstFault bytes r
 
--- why a text, or bytes, have no tokens; want of memory tells nothing of them
+-- why a text, or bytes, have no tree; want of memory tells nothing of them
 abbrev pub IsTextCause : List ℕ → SourceFault → Type 0
 IsTextCause text (source.Refused r) = FirstInText text r
 IsTextCause text source.Memory = Unit {0}

@@ -35,7 +35,7 @@ fn refused(text: &Text, fault: LexFault) -> SourceFault
         return SourceFault::Memory;
     }
     SourceFault::Refused(Refusal::Lex {
-        kind: fault.kind,
+        fault,
         spot: place(text, fault.span.from),
     })
 }

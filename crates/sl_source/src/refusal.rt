@@ -1,19 +1,22 @@
 //! Why a source file is refused.
 
 use sl_base::NoMemory;
-use sl_lexer::LexKind;
+use sl_lexer::LexFault;
+use sl_parse_tmpl::ParseFault;
 use sl_text::Spot;
 
-/// The first fault of a source file, and where it stands.
+/// The first fault of a source file, and the line and the column of its first character.
 #[derive(Clone, Copy, Debug, PartialEq, Eq)]
 pub enum Refusal {
     /// The file isn't UTF-8, and the first ill-formed sequence begins at this byte.
     NotUtf8 { at: u32 },
-    /// A lexical fault begins there (SLS 1).
-    Lex { kind: LexKind, spot: Spot },
+    /// A fault of tokens (SLS 1).
+    Lex { fault: LexFault, spot: Spot },
+    /// A fault of the tree (SLS 4 to 6, 8).
+    Parse { fault: ParseFault, spot: Spot },
 }
 
-/// Why bytes have no tokens.
+/// Why bytes have no tree.
 #[derive(Clone, Copy, Debug, PartialEq, Eq)]
 pub enum SourceFault {
     Refused(Refusal),

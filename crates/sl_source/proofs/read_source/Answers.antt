@@ -5,7 +5,7 @@ use Rattle.sl_source.specs.declared.refusal.Refusal.TheVariants as refusal
 use Rattle.sl_source.specs.declared.refusal.SourceFault.{SourceFault}
 use Rattle.sl_source.specs.declared.refusal.SourceFault.TheVariants as source
 use Rattle.sl_source.specs.Source.{IsCause, IsTextCause, FirstFault, not_utf8, in_text}
-use Rattle.sl_source.proofs.tokens_of.Goals as goal
+use Rattle.sl_source.proofs.read_source.Goals as goal
 
 of_text : (bytes text : List ℕ) (f : SourceFault) → Spells bytes text → IsTextCause text f → IsCause bytes f
 of_text bytes text (source.Refused r) s c = in_text s c
@@ -16,7 +16,7 @@ if_err bytes text (Ok x) s c = tt
 if_err bytes text (Err f) s c = of_text bytes text f s c
 
 pub returns-in-Ok-clause-cause : goal.returns-in-Ok-clause-cause
-returns-in-Ok-clause-cause c = if_err c.args.bytes.now c.in-Ok.text c.tokens_in.result c.in-Ok.ensures.text c.tokens_in.ensures.cause
+returns-in-Ok-clause-cause c = if_err c.args.bytes.now c.in-Ok.text c.source_of.result c.in-Ok.ensures.text c.source_of.ensures.cause
 
 pub returns-in-Err-NotUtf8-clause-cause : goal.returns-in-Err-NotUtf8-clause-cause
 returns-in-Err-NotUtf8-clause-cause c =
