@@ -17,3 +17,6 @@ pub mod Loops
 pub mod Gives
 pub mod PatternSound
 pub mod Sound
+pub mod Fronts
+pub mod Reaches
+pub mod Complete
