@@ -20,3 +20,4 @@ pub mod Sound
 pub mod Fronts
 pub mod Reaches
 pub mod Complete
+pub mod PatternComplete
