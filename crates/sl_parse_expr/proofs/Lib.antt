@@ -21,3 +21,6 @@ pub mod Fronts
 pub mod Reaches
 pub mod Complete
 pub mod PatternComplete
+pub mod ExprFronts
+pub mod BlockComplete
+pub mod ElseComplete
