@@ -24,3 +24,5 @@ pub mod PatternComplete
 pub mod ExprFronts
 pub mod BlockComplete
 pub mod ElseComplete
+pub mod SimpleComplete
+pub mod ExprComplete
