@@ -1,5 +1,5 @@
 -- Single tokens, words, names, literals and types that are in the grammar are read.
-use Rattle.std.proofs.Common.{◌≡◌, true, List, [], refl}
+use Rattle.std.proofs.Common.{true, List, [], refl}
 use Rattle.sl_text.specs.declared.span.Span.{Span}
 use Rattle.sl_ast.specs.declared.token.Token.{Token}
 use Rattle.sl_ast.specs.declared.ident.Ident.{Ident}
@@ -8,10 +8,9 @@ use Rattle.sl_ast.specs.declared.operator.Operator.{Operator}
 use Rattle.sl_ast.specs.declared.operator.Sign.{Sign}
 use Rattle.sl_ast.specs.declared.binding.Binding.{Binding}
 use Rattle.sl_ast.specs.declared.type_tree.TypeTree.{TypeTree}
-use Rattle.sl_parse_expr.specs.declared.ahead.Ahead.{Ahead}
 use Rattle.sl_parse_expr.specs.declared.ahead.Ahead.TheVariants as see
 use Rattle.sl_parse_expr.specs.Ahead.{same}
-use Rattle.sl_parse_expr.specs.Tokens.{ident_of, operator_of, sign_of, literal_of, binding_of, separator_of}
+use Rattle.sl_parse_expr.specs.Tokens.{operator_of, sign_of, literal_of, binding_of, separator_of}
 use Rattle.sl_parse_expr.specs.Trees.{named_type, applied_type}
 use Rattle.sl_parse_expr.specs.Rules.{name, operator, sign, literal, binding, separator, applied, type_tree}
 use Rattle.sl_parse_expr.specs.Phrases.{IsOne, IsWord}

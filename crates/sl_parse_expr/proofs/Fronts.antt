@@ -1,6 +1,6 @@
 -- What is ahead where the grammar has a token.
-use Rattle.std.proofs.Common.{◌≡◌, ℕ, zero, suc, Bool, true, false, List, [], ◌∷◌, Option, Some, None, refl, sym, ap, subst, ◌∙◌, inl, inr, ◌⊎◌}
-use Rattle.std.specs.Prelude.{◌==◌, if◌then◌else◌, ◌&&◌, ◌||◌, encode_utf8_all}
+use Rattle.std.proofs.Common.{◌≡◌, ℕ, zero, suc, Bool, true, false, List, [], ◌∷◌, Some, None, refl, sym, ap, ◌∙◌, inl, inr}
+use Rattle.std.specs.Prelude.{◌==◌, if◌then◌else◌, ◌||◌, encode_utf8_all}
 use Rattle.std.proofs.lemmas.Bool.{eqb-true}
 use Rattle.sl_text.specs.declared.span.Span.{Span}
 use Rattle.sl_ast.specs.declared.token.Token.{Token}
@@ -20,7 +20,7 @@ use Rattle.sl_parse_expr.specs.declared.ahead.Ahead.TheVariants as see
 use Rattle.sl_parse_expr.specs.Ahead.{sort, same, code, of_shape, of_kind, of_operator}
 use Rattle.sl_parse_expr.specs.Tokens.{ident_of, ident_by, operator_of, operator_by, sign_of, sign_by, sign_text, literal_of, literal_by, literal_word, binding_of, binding_by, separator_of, separates}
 use Rattle.sl_parse_expr.specs.Starts.{begins_sign, is_operator, begins_binding}
-use Rattle.sl_parse_expr.specs.Reading.{ahead, word}
+use Rattle.sl_parse_expr.specs.Reading.{ahead}
 use Rattle.sl_parse_expr.specs.Phrases.{IsOne, IsWord}
 use Rattle.sl_parse_expr.specs.Phrases as phrase
 use Rattle.sl_parse_expr.specs.Grammar.{IsName}

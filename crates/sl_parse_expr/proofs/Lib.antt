@@ -26,3 +26,4 @@ pub mod BlockComplete
 pub mod ElseComplete
 pub mod SimpleComplete
 pub mod ExprComplete
+pub mod OneTree

@@ -1,13 +1,13 @@
 -- That a reader gives a value, and what is left behind it, of which separators may be held.
-use Rattle.std.proofs.Common.{◌≡◌, ℕ, Bool, true, false, List, [], ◌∷◌, ◌++◌, length, Option, Some, None, Ok, Err, refl, sym, ap, subst, ◌∙◌, append_assoc}
+use Rattle.std.proofs.Common.{◌≡◌, Bool, true, false, List, [], ◌∷◌, ◌++◌, Option, Some, None, refl, sym, ap, ◌∙◌, append_assoc}
 use Rattle.std.specs.Prelude.{if◌then◌else◌, ◌&&◌}
 use Rattle.std.proofs.lemmas.List.{append-nil}
 use Rattle.sl_text.specs.declared.span.Span.{Span}
 use Rattle.sl_ast.specs.declared.token.Token.{Token}
 use Rattle.sl_parse_expr.specs.declared.ahead.Ahead.{Ahead}
 use Rattle.sl_parse_expr.specs.declared.ahead.Ahead.TheVariants as see
-use Rattle.sl_parse_expr.specs.Ahead.{sort, same}
-use Rattle.sl_parse_expr.specs.Reading.{State, Outcome, Reader, and_then, ◌>>=◌, ◌>>◌, pure, ahead, nothing, one, given, word, expect, choose_by, by_ahead, choose, if_clean, option, fold, clean}
+use Rattle.sl_parse_expr.specs.Ahead.{same}
+use Rattle.sl_parse_expr.specs.Reading.{Outcome, Reader, and_then, ◌>>=◌, pure, ahead, nothing, one, given, expect, choose, option, fold, clean}
 use Rattle.sl_parse_expr.specs.Rules.{added}
 use Rattle.sl_parse_expr.specs.Phrases.{IsOne, IsWord, IsOption, Pending, none_held, semi_held, line_held, lines_held}
 use Rattle.sl_parse_expr.specs.Phrases as phrase

@@ -1,5 +1,5 @@
 -- Simple expressions and operators that are in the grammar are read, over the expressions inside.
-use Rattle.std.proofs.Common.{◌≡◌, ℕ, Bool, true, false, List, [], ◌∷◌, ◌++◌, Option, Some, None, refl, sym, ap, subst, ◌∙◌, append_assoc, inl, inr, ◌⊎◌}
+use Rattle.std.proofs.Common.{◌≡◌, ℕ, Bool, true, false, List, [], ◌∷◌, ◌++◌, Option, Some, None, refl, sym, ap, ◌∙◌, append_assoc, inl, inr, ◌⊎◌}
 use Rattle.std.specs.Prelude.{if◌then◌else◌, ◌&&◌, ◌||◌}
 use Rattle.std.proofs.lemmas.List.{append-nil}
 use Rattle.sl_text.specs.declared.span.Span.{Span}
@@ -23,7 +23,7 @@ use Rattle.sl_parse_expr.specs.Ahead.{sort, same}
 use Rattle.sl_parse_expr.specs.Starts.{begins_sign, is_operator}
 use Rattle.sl_parse_expr.specs.Tokens.{operator_of}
 use Rattle.sl_parse_expr.specs.Trees.{select, apply, apply_block, simple_tree, operation_tree}
-use Rattle.sl_parse_expr.specs.Reading.{Outcome, State, ◌>>◌, pure, stuck, hold, ahead, rest, nothing, choose, absorb, fold, clean}
+use Rattle.sl_parse_expr.specs.Reading.{Outcome, State, ◌>>◌, pure, stuck, hold, ahead, nothing, choose, absorb, fold, clean}
 use Rattle.sl_parse_expr.specs.Rules.{added, literal_start, name_start, this_start, super_start, new_args, new_start, nothing_inside, expr_inside, parens_start, block_start, start, selection, call, block_call, behind_line, line_call, suffix, suffixes, first_chain, goes_chain, at_suffix, add_suffix, simple, signed, unsigned, prefix, line_operand, operand, operation, operations, infix_expr}
 use Rattle.sl_parse_expr.specs.PatternRules.{pattern}
 use Rattle.sl_parse_expr.specs.Levels.{expr}
@@ -37,7 +37,7 @@ use Rattle.sl_parse_expr.proofs.Begun.{skip}
 use Rattle.sl_parse_expr.proofs.Level.{level, pattern_level}
 use Rattle.sl_parse_expr.proofs.Good.{good_suffix, suffix_none, good_operation}
 use Rattle.sl_parse_expr.proofs.Loops.{Eats, eats_of}
-use Rattle.sl_parse_expr.proofs.Fronts.{front, front_name, front_literal, are_same, word_ahead, operator_ahead, sign_ahead}
+use Rattle.sl_parse_expr.proofs.Fronts.{front, front_name, front_literal, word_ahead, operator_ahead, sign_ahead}
 use Rattle.sl_parse_expr.proofs.ExprFronts.{front_braces, front_simple, front_prefix, front_expr, no_close, no_sign, no_line_end}
 use Rattle.sl_parse_expr.proofs.Reaches.{Reaches, Lands, From, next, next_clean, upon, upon_clean, map, map_clean, map_from, marked, closing, optional_clean, left, right, left_clean, right_clean, stays, goes}
 use Rattle.sl_parse_expr.proofs.Complete.{reads_name, reads_operator, reads_sign, reads_literal}
