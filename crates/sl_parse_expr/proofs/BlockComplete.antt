@@ -152,10 +152,15 @@ module _ (n : ℕ) (reads : (x : Expr) (a r : List Token) → IsExpr n x a r →
   unfolding block_item stat_item
   reads_item {x} {a} {b} free h k =
       let g = reads_stat h in
-      let i = reads_behind (stat_ends_in_new x) g.held g.left g.pending (ap (λ (z : List Token). stat_ends_in_new x && body_follows z) g.whole ∙ k) in
-      (i.held, i.left, i.pending, i.whole ∙ g.whole, right_clean _ separates free (record {
-        reads = ap (λ (o : Outcome Stat). and_then o (λ x. behind_item (stat_ends_in_new x) >>= λ c. pure (Some (x, c)))) g.reads ∙ ap (λ (o : Outcome Bool). and_then o (λ c. pure (Some (x, c)))) i.reads;
-      }))
+      let i = reads_behind (stat_ends_in_new x) g.held g.left g.pending (ap (λ (z : List Token). stat_ends_in_new x && body_follows z) g.whole ∙ k) in (
+        i.held,
+        i.left,
+        i.pending,
+        i.whole ∙ g.whole,
+        right_clean _ separates free (record {
+          reads = ap (λ (o : Outcome Stat). and_then o (λ x. behind_item (stat_ends_in_new x) >>= λ c. pure (Some (x, c)))) g.reads ∙ ap (λ (o : Outcome Bool). and_then o (λ c. pure (Some (x, c)))) i.reads;
+        }),
+      )
 
   -- whether a separator stands before, when these are held
   abbrev state_of : Bool → Held → Bool
