@@ -17,3 +17,13 @@ pub mod Loops
 pub mod Gives
 pub mod PatternSound
 pub mod Sound
+pub mod Fronts
+pub mod Reaches
+pub mod Complete
+pub mod PatternComplete
+pub mod ExprFronts
+pub mod BlockComplete
+pub mod ElseComplete
+pub mod SimpleComplete
+pub mod ExprComplete
+pub mod OneTree
