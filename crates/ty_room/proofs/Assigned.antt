@@ -1,13 +1,13 @@
 -- Assignments, over values of every size.
-use Rattle.std.proofs.Common.{◌≡◌, ◌≤◌, ◌+◌, ◌*◌, ℕ, List, [], ◌∷◌, refl, arith}
+use Rattle.std.proofs.Common.{◌≡◌, ◌≤◌, ◌+◌, ◌*◌, ℕ, [], ◌∷◌, refl, arith}
 use Rattle.ty_prog.specs.declared.catch.Catch.TheOpen.{Expr-F}
 use Rattle.ty_prog.specs.declared.prim_op.PrimOp.{PrimOp}
 use Rattle.ty_room.specs.declared.size.Size.{Size}
 use Rattle.ty_room.specs.Numbers.{operator_numbers}
-use Rattle.ty_room.specs.Sizing.{nothing, beside, merged, keeping, node_size, behind, covered, heavier}
+use Rattle.ty_room.specs.Sizing.{nothing, beside, merged, node_size, behind, covered, heavier}
 use Rattle.ty_room.specs.Forms.{tree, this, boxed, called, joined_texts}
 use Rattle.ty_room.specs.Source.{ExprWorth, added, local_set, member_set, other_set, member_of}
-use Rattle.ty_room.proofs.FormsWorth.{Small, small, keeping_most, with_one, an_own_call, boxed_value, boxed_test, boxed_entries, one_arg_most, one_arg_entries, this_value, this_entries, read_value, read_entries, texts_most, texts_entries}
+use Rattle.ty_room.proofs.FormsWorth.{small, keeping_most, with_one, boxed_value, boxed_test, boxed_entries, one_arg_most, one_arg_entries, this_value, this_entries, read_value, read_entries, texts_most, texts_entries}
 
 pub set_definition : (local n : ℕ) (e : Size) → ExprWorth n e → ExprWorth (n + 1) (local_set local e)
 set_definition local n e x = with_one 5 1 n e (omega arith) (omega arith) x

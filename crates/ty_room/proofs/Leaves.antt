@@ -1,5 +1,5 @@
 -- Forms of one node, and the parts of a constructor.
-use Rattle.std.proofs.Common.{◌≡◌, ◌≤◌, ◌+◌, ◌*◌, ℕ, Bool, true, false, nat_eq, if◌then◌else◌, List, [], ◌∷◌, length, refl, sym, subst, arith}
+use Rattle.std.proofs.Common.{◌≡◌, ◌≤◌, ◌+◌, ◌*◌, ℕ, nat_eq, if◌then◌else◌, List, [], ◌∷◌, length, refl, sym, subst, arith}
 use Rattle.std.specs.List.{AllByRecursion}
 use Rattle.ty_room.specs.declared.size.Size.{Size}
 use Rattle.ty_room.specs.Numbers.{making, operation, kept_bytes}
