@@ -81,7 +81,7 @@ pub record Operands (nodes count : ℕ) (parts : Size) : Type 0 where
   pub kept : parts.kept ≡ 8 * count
   pub entries : parts.entries + count ≤ 5 * nodes
 
-operands : (ns : List ℕ) (parts : List Size) → AllWorth ExprWorth ns parts → Operands (all_nodes ns) (length parts) (together parts)
+pub operands : (ns : List ℕ) (parts : List Size) → AllWorth ExprWorth ns parts → Operands (all_nodes ns) (length parts) (together parts)
 operands ns parts h =
     let s = all_sum 13 1 ns parts h in
     record { bytes = omega (arith, s.bytes, thirteens parts); kept = omega (arith, s.kept, eights parts); entries = omega (arith, s.entries, ones parts) }
@@ -100,12 +100,12 @@ with_object n nodes count of args o h = record { bytes = omega (arith, o.bytes, 
 pub a_call : (n : ℕ) (of : Size) (ns : List ℕ) (args : List Size) → ExprWorth n of → AllWorth ExprWorth ns args → ExprWorth (n + all_nodes ns + 1) (boxed (called of args))
 a_call n of ns args o h = operation_by (operation 6 4) 1 (n + all_nodes ns) (length args + 1) (merged (beside nothing of) (together args)) (with_object n (all_nodes ns) (length args) of (together args) o (operands ns args h)) (omega arith) (omega arith) (omega arith)
 
-record Small (f : Numbers) : Type 0 where
-  jump : f.jump ≤ f.bytes + 3
-  bytes : f.bytes + f.more ≤ 9
-  entries : f.entries ≡ 0
+pub record Small (f : Numbers) : Type 0 where
+  pub jump : f.jump ≤ f.bytes + 3
+  pub bytes : f.bytes + f.more ≤ 9
+  pub entries : f.entries ≡ 0
 
-small : (o : PrimOp) → Small (operator_numbers o)
+pub small : (o : PrimOp) → Small (operator_numbers o)
 small op.Add = record { jump = omega arith; bytes = omega arith; entries = refl }
 small op.Sub = record { jump = omega arith; bytes = omega arith; entries = refl }
 small op.Mul = record { jump = omega arith; bytes = omega arith; entries = refl }
@@ -204,10 +204,10 @@ texts_kept : (a b : Size) → (beside (beside nothing a) b).kept ≡ 16
 unfolding beside
 texts_kept a b = refl
 
-texts_most : (a b : Size) → (joined_texts a b).value ≤ a.value + b.value + 33
+pub texts_most : (a b : Size) → (joined_texts a b).value ≤ a.value + b.value + 33
 texts_most a b = omega (arith, two_node (operation 3 0) (beside (beside nothing (tree (Expr-F.TextOf a))) (tree (Expr-F.TextOf b))) (texts_kept (tree (Expr-F.TextOf a)) (tree (Expr-F.TextOf b))) refl, texts_parts a b)
 
-texts_entries : (a b : Size) → (joined_texts a b).entries ≡ a.entries + b.entries
+pub texts_entries : (a b : Size) → (joined_texts a b).entries ≡ a.entries + b.entries
 unfolding beside node_size
 texts_entries a b = omega arith
 
@@ -226,38 +226,38 @@ one_arg_value : (of a : Size) → (merged (beside nothing of) (beside nothing a)
 unfolding beside merged
 one_arg_value of a = omega arith
 
-one_arg_most : (of a : Size) → (called of (a ∷ [])).value ≤ of.value + a.value + 16
+pub one_arg_most : (of a : Size) → (called of (a ∷ [])).value ≤ of.value + a.value + 16
 one_arg_most of a = omega (arith, two_node (operation 6 4) (merged (beside nothing of) (beside nothing a)) (one_arg_kept of a) refl, one_arg_value of a)
 
-one_arg_entries : (of a : Size) → (called of (a ∷ [])).entries ≡ of.entries + a.entries + 4
+pub one_arg_entries : (of a : Size) → (called of (a ∷ [])).entries ≡ of.entries + a.entries + 4
 unfolding beside merged node_size
 one_arg_entries of a = omega arith
 
-read_value : (called this []).value ≡ 7
+pub read_value : (called this []).value ≡ 7
 unfolding beside merged node_size
 read_value = refl
 
-read_entries : (called this []).entries ≡ 4
+pub read_entries : (called this []).entries ≡ 4
 unfolding beside merged node_size
 read_entries = refl
 
-this_value : this.value ≡ 1
+pub this_value : this.value ≡ 1
 unfolding node_size
 this_value = refl
 
-this_entries : this.entries ≡ 0
+pub this_entries : this.entries ≡ 0
 unfolding node_size
 this_entries = refl
 
-boxed_value : (e : Size) → (boxed e).value ≡ e.value + 4
+pub boxed_value : (e : Size) → (boxed e).value ≡ e.value + 4
 unfolding beside node_size
 boxed_value e = omega arith
 
-boxed_test : (e : Size) → (boxed e).test ≡ e.value + 7
+pub boxed_test : (e : Size) → (boxed e).test ≡ e.value + 7
 unfolding beside node_size
 boxed_test e = omega arith
 
-boxed_entries : (e : Size) → (boxed e).entries ≡ e.entries
+pub boxed_entries : (e : Size) → (boxed e).entries ≡ e.entries
 unfolding beside node_size
 boxed_entries e = omega arith
 

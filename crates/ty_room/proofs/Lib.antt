@@ -9,5 +9,8 @@ pub mod Rows
 pub mod Chains
 pub mod FormsWorth
 pub mod BranchesWorth
+pub mod Leaves
+pub mod Assigned
 pub mod Within
 pub mod Keeping
+pub mod Sums

@@ -1,13 +1,14 @@
 -- Each row of the tables of what lowerings put in place of forms.
 use Rattle.std.proofs.Common.{◌≡◌, ◌≤◌, ◌+◌, ℕ, Bool, true, false, nat_eq, if◌then◌else◌, List, [], ◌∷◌, fold, refl, ap, subst, arith}
-use Rattle.ty_prog.specs.declared.catch.Catch.TheOpen.{Expr-F}
+use Rattle.ty_prog.specs.declared.catch.Catch.TheOpen.{Expr-F, Pattern-F}
+use Rattle.ty_prog.specs.declared.ty.Ty.TheVariants as ty
 use Rattle.ty_room.specs.declared.size.Size.{Size}
 use Rattle.ty_room.specs.declared.numbers.Numbers.{Numbers}
 use Rattle.ty_room.specs.Numbers.{kept_bytes, operation, making}
-use Rattle.ty_room.specs.Sizing.{nothing, beside, merged, together, keeping, node_size, bool_size, choice_size, loop_size, behind, covered, heavier, trying, deciding_size, make_size}
-use Rattle.ty_room.specs.Forms.{tree_at, local, part}
+use Rattle.ty_room.specs.Sizing.{nothing, beside, merged, together, keeping, pattern_step, node_size, bool_size, choice_size, loop_size, behind, covered, heavier, trying, deciding_size, make_size}
+use Rattle.ty_room.specs.Forms.{tree_at, local, part, type_test, bound}
 use Rattle.ty_room.specs.NoMore.{NoMore}
-use Rattle.ty_room.specs.Replaced.{each, TakesNoMore, IsTest, of_objects, of_traits, of_lazy_members, of_patterns, cast_part}
+use Rattle.ty_room.specs.Replaced.{each, TakesNoMore, IsTest, of_objects, of_traits, of_lazy_members, of_conversions, of_variables, int_bound, Tests, of_patterns, cast_part}
 use Rattle.ty_room.proofs.Monotone.{same_numbers, node_no_more}
 
 -- what is put together from some start on is the start and what is put together
@@ -137,6 +138,33 @@ traits_replaced number of value args =
 
 pub lazies_replaced : (of : Size) → each TakesNoMore (of_lazy_members of)
 lazies_replaced of = (called_no_more (operation 6 4) of, tt)
+
+pub conversions_replaced : (k : ℕ) (e : Size) → each TakesNoMore (of_conversions k e)
+unfolding beside node_size behind covered
+conversions_replaced k e = (
+  record { value = omega arith; test = omega arith; fixed = refl; tries = omega arith; kept = refl; entries = omega arith; supers = omega arith },
+  (
+    record { value = omega arith; test = omega arith; fixed = refl; tries = omega arith; kept = refl; entries = omega arith; supers = omega arith },
+    (
+      record { value = omega arith; test = omega arith; fixed = refl; tries = omega arith; kept = refl; entries = omega arith; supers = omega arith },
+      (
+        record { value = omega arith; test = omega arith; fixed = refl; tries = omega arith; kept = refl; entries = omega arith; supers = omega arith },
+        (record { value = omega arith; test = omega arith; fixed = refl; tries = omega arith; kept = refl; entries = omega arith; supers = omega arith }, tt),
+      ),
+    ),
+  ),
+)
+
+pub variables_replaced : (rest : Size) → each TakesNoMore (of_variables rest)
+unfolding beside node_size behind covered
+variables_replaced rest = (
+  record { value = omega arith; test = omega arith; fixed = refl; tries = omega arith; kept = refl; entries = omega arith; supers = omega arith },
+  (record { value = omega arith; test = omega arith; fixed = refl; tries = omega arith; kept = refl; entries = omega arith; supers = omega arith }, tt),
+)
+
+pub int_variable : (rest : Size) → Tests 0 (type_test local (int_bound rest)) (pattern_step (Pattern-F.OfType ty.Int)) (bound local rest)
+unfolding beside merged node_size bool_size choice_size loop_size behind covered heavier
+int_variable rest = record { test = omega arith; tries = omega arith; entries = omega arith; supers = omega arith }
 
 pub read_local : (rest : Size) → each (IsTest 0 rest) (of_patterns local rest)
 unfolding beside merged node_size bool_size choice_size loop_size behind covered heavier trying deciding_size make_size

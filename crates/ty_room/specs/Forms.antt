@@ -220,7 +220,7 @@ lowerings p =
     ∷ low (tree_at 2 (Expr-F.Call p 0 0 (p ∷ []))) (tree_at 1 (Expr-F.Put p 0 0 p))
     ∷ low (tree_at 2 (Expr-F.StaticCall 0 0 (tree_at 2 Expr-F.This ∷ p ∷ p ∷ []))) (tree_at 1 (Expr-F.SuperCall 0 [] (p ∷ p ∷ [])))
     ∷ low (tree_at 2 (Expr-F.Call local 0 0 (p ∷ p ∷ []))) (tree_at 1 (Expr-F.SuperCall 0 [] (p ∷ p ∷ [])))
-    -- lazy members
+    -- a read of a lazy member that becomes a call
     ∷ low (tree_at 4 (Expr-F.Call p 0 0 [])) (tree_at 3 (Expr-F.LazyGet p 0 0))
     -- patterns
     ∷ test_of (first_then (tree_at 3 (Expr-F.SetLocal 0 part)) always) (matched (Pattern-F.Bind 0 (matched Pattern-F.«Pattern::Any»)))

@@ -1,12 +1,15 @@
 -- A lowered class has room where the class had, by what its parts take.
-use Rattle.std.specs.Prelude.{ℕ, ◌+◌, ◌*◌, ◌≤◌, ◌≡◌, length, sum_by, if◌then◌else◌, List}
+use Rattle.std.specs.Prelude.{ℕ, ◌+◌, ◌*◌, ◌-◌, ◌≤◌, ◌≡◌, length, sum_by, if◌then◌else◌, List, Option, Some, None}
 use Rattle.std.specs.List.{All, AllZip}
 use Rattle.ty_prog.specs.declared.class.Class.{Class}
+use Rattle.ty_prog.specs.declared.cell.Cell.{Cell}
+use Rattle.ty_prog.specs.declared.method.Method.{Method}
 use Rattle.ty_prog.specs.declared.expr.Expr.{Expr}
+use Rattle.ty_room.specs.declared.size.Size.{Size}
 use Rattle.ty_room.specs.NoMore.{NoMore}
 use Rattle.ty_room.specs.Ahead.{ahead_of}
 use Rattle.ty_room.specs.Sizing.{expr_size}
-use Rattle.ty_room.specs.Room.{OBJECT_WEIGHT, MIXIN_WEIGHT, CellHasRoom, MethodHasRoom, superclass_size, class_size, constructor_weight, part_entries, taken_entries, coming_entries, class_entries}
+use Rattle.ty_room.specs.Room.{OBJECT_WEIGHT, MIXIN_WEIGHT, CellHasRoom, MethodHasRoom, superclass_size, body_size, class_size, constructor_weight, part_entries, taken_entries, coming_entries, class_entries}
 
 -- what statements take, their values dropped
 abbrev pub statements : ℕ → List Expr → ℕ
@@ -24,6 +27,29 @@ pub record ConstructorKept (j k gained : ℕ) (low high : Class) : Type 0 where
   pub locals : low.locals ≤ high.locals
   pub counted : gained + MIXIN_WEIGHT * length low.mixins + (if (ahead_of j).objects then OBJECT_WEIGHT else 0)
       ≤ MIXIN_WEIGHT * length high.mixins + (if (ahead_of k).objects then OBJECT_WEIGHT else 0)
+
+-- a body that a pass leaves: it takes no more, and has no more locals past those that have values
+pub record BodyKept (j k given given' locals locals' : ℕ) (low high : Expr) : Type 0 where
+  pub size : NoMore (expr_size (ahead_of j) low) (expr_size (ahead_of k) high)
+  pub new : locals - given ≤ locals' - given'
+
+-- a lazy member, and a method: one without a body always has room
+unfoldable pub CellKept : ℕ → ℕ → Cell → Cell → Type 0
+CellKept j k low high = BodyKept j k 0 0 low.locals high.locals low.init high.init
+
+abbrev pub SomeKept : ℕ → ℕ → Method → Method → Option Expr → Option Expr → Type 0
+SomeKept j k low high None body = Unit
+SomeKept j k low high (Some body) None = ⊥
+SomeKept j k low high (Some body) (Some other) = BodyKept j k (length low.params) (length high.params) low.locals high.locals body other
+
+unfoldable pub MethodKept : ℕ → ℕ → Method → Method → Type 0
+MethodKept j k low high = SomeKept j k low high low.body high.body
+
+-- entries, or calls by `super`, of all trees of a class, tree by tree
+abbrev pub in_trees : (Size → ℕ) → ℕ → Class → ℕ
+in_trees of k class =
+    sum_by (λ e. of (expr_size (ahead_of k) e)) class.super_args + sum_by (λ e. of (expr_size (ahead_of k) e)) class.body
+    + (sum_by (λ cell. of (expr_size (ahead_of k) cell.init)) class.cells + sum_by (λ method. of (body_size (ahead_of k) method.body)) class.methods)
 
 -- the pool of a class: members, what is taken, trees and what is to come together
 abbrev pub brought : ℕ → List Class → Class → ℕ

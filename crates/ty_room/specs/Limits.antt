@@ -20,15 +20,23 @@ MOST_UNITS = 10000
 abbrev pub MOST_CLASSES : ℕ
 MOST_CLASSES = 4120
 
+-- the call of a superclass constructor without arguments
+abbrev pub SUPERCLASS_WEIGHT : ℕ
+SUPERCLASS_WEIGHT = 4
+
 -- what a class may bring besides, as the constant parts of a case class do
 abbrev pub BESIDE_ENTRIES : ℕ
 BESIDE_ENTRIES = 500
+
+-- what a node of source may take is 31.6 bytes: 158 fifths of a byte. Patterns of five variables take that much
+abbrev pub FIFTHS : ℕ
+FIFTHS = 158
 
 -- a body that stands for so many nodes of source, with its locals
 pub record BodyWithin (given locals : ℕ) (body : Expr) : Type 0 where
   pub nodes : ℕ
   pub few : nodes ≤ MOST_NODES
-  pub bytes : (expr_size (ahead_of 0) body).value + (locals - given) ≤ 31 * nodes
+  pub bytes : 5 * ((expr_size (ahead_of 0) body).value + (locals - given)) ≤ FIFTHS * nodes
 
 -- a lazy member, and a method, perhaps without a body
 unfoldable pub CellWithin : Cell → Type 0
@@ -41,13 +49,13 @@ SomeWithin method (Some body) = BodyWithin (length method.params) method.locals 
 unfoldable pub MethodWithin : Method → Type 0
 MethodWithin method = SomeWithin method method.body
 
--- a class: its constructor, of which each parameter counts two nodes and each trait that is mixed in four; its members; and
--- its size
+-- a class: its constructor, of which each parameter counts two nodes and each trait that is mixed in four, and which calls
+-- that of the superclass by four bytes also where it has no nodes; its members; and its size
 pub record ClassWithin (classes : List Class) (class : Class) : Type 0 where
   pub nodes : ℕ
   pub few : nodes + 2 * length class.params + 4 * length class.mixins ≤ MOST_NODES
-  pub bytes : (superclass_size (ahead_of 0) class.super_args).value + sum_by (λ e. (expr_size (ahead_of 0) e).value + 1) class.body
-      + (class.locals - length class.params) ≤ 31 * nodes
+  pub bytes : 5 * ((superclass_size (ahead_of 0) class.super_args).value + sum_by (λ e. (expr_size (ahead_of 0) e).value + 1) class.body
+      + (class.locals - length class.params)) ≤ FIFTHS * nodes + 5 * SUPERCLASS_WEIGHT
   pub cells : All CellWithin class.cells
   pub methods : All MethodWithin class.methods
   pub units : ℕ

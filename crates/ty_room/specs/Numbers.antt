@@ -45,8 +45,10 @@ operator_numbers op.Evaluating = form 3 0
 operator_numbers op.NullValue = form 3 0
 operator_numbers other = operation 1 0
 
--- a conversion by its type: to AnyRef there is nothing to do, since only a reference is converted to it
+-- a conversion by its type: to AnyRef there is nothing to do, since only a reference is converted to it; to Int a box of a
+-- Long is told from one of an Int before either is opened
 abbrev pub convert_bytes : Ty → ℕ
+convert_bytes ty.Int = 17
 convert_bytes ty.Any = 4
 convert_bytes ty.AnyRef = 0
 convert_bytes ty.Unit = 5

@@ -6,7 +6,7 @@ use Rattle.ty_prog.specs.declared.prim_op.PrimOp.TheVariants as op
 use Rattle.ty_prog.specs.declared.ty.Ty.TheVariants as ty
 use Rattle.ty_room.specs.declared.size.Size.{Size}
 use Rattle.ty_room.specs.Sizing.{nothing, beside, heavier, pattern_step}
-use Rattle.ty_room.specs.Forms.{tree_at, always, never, int, kept_in_local, first_then, joined, any_of, cast, literal_test, object_test, type_test, local}
+use Rattle.ty_room.specs.Forms.{tree_at, always, never, int, kept_in_local, first_then, joined, any_of, cast, literal_test, object_test, type_test, local, bound}
 use Rattle.ty_room.specs.NoMore.{NoMore}
 
 -- what stands for a form, and the form
@@ -41,9 +41,35 @@ of_traits number of value args =
     ∷ instead (tree_at 2 (Expr-F.Call (tree_at 2 (Expr-F.Local 0)) 0 0 args)) (tree_at 1 (Expr-F.SuperCall 0 [] args))
     ∷ []
 
--- lazy members
+-- a read of a lazy member that becomes a call. Where it is the whole body of the method that reads the member, what tells
+-- threads apart comes in its place: Members has what that brings
 abbrev pub of_lazy_members : Size → List Replaced
 of_lazy_members of = instead (tree_at 4 (Expr-F.Call of 0 0 [])) (tree_at 3 (Expr-F.LazyGet of 0 0)) ∷ []
+
+-- a value that is dropped, and what comes in its place
+abbrev pub replaced_by : ℕ → Size → Size → Size
+replaced_by k e last = tree_at k (Expr-F.Block (e ∷ last ∷ []))
+
+-- conversions to Unit, Null and Nothing, to Any and to Long: none takes more than the one to Any, and that no more than a
+-- `Convert` to Unit, of which nothing more is counted where a pattern's variable has another type than the value
+abbrev pub of_conversions : ℕ → Size → List Replaced
+of_conversions k e =
+    instead (replaced_by k e (tree_at k Expr-F.Unit)) (tree_at k (Expr-F.Convert ty.Any e))
+    ∷ instead (replaced_by k e (tree_at k Expr-F.Null)) (tree_at k (Expr-F.Convert ty.Any e))
+    ∷ instead (replaced_by k e (tree_at k (Expr-F.Throw (tree_at k Expr-F.Null)))) (tree_at k (Expr-F.Convert ty.Any e))
+    ∷ instead (tree_at k (Expr-F.Convert ty.Long e)) (tree_at k (Expr-F.Convert ty.Any e))
+    ∷ instead (tree_at k (Expr-F.Convert ty.Any e)) (tree_at k (Expr-F.Convert ty.Unit e)) ∷ []
+
+-- the same of what stands for a variable of type Null or Nothing, in front of what follows it
+abbrev pub of_variables : Size → List Replaced
+of_variables rest =
+    instead (first_then (tree_at 3 (Expr-F.SetLocal 0 (replaced_by 3 local (tree_at 3 Expr-F.Null)))) rest) (bound local rest)
+    ∷ instead (first_then (tree_at 3 (Expr-F.SetLocal 0 (replaced_by 3 local (tree_at 3 (Expr-F.Throw (tree_at 3 Expr-F.Null)))))) rest) (bound local rest)
+    ∷ []
+
+-- a variable of type Int in front of what follows it
+abbrev pub int_bound : Size → Size
+int_bound rest = first_then (tree_at 3 (Expr-F.SetLocal 0 (tree_at 3 (Expr-F.Convert ty.Int local)))) rest
 
 -- a pattern in front of what follows it: what stands for both takes no more as a test than the pattern and what follows,
 -- but for what it takes to read the value

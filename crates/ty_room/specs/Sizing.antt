@@ -254,11 +254,12 @@ expr_step ahead (Expr-F.StaticCall class method args) = node_size (operation 4 4
 expr_step ahead (Expr-F.ModuleGet class) = node_size (form 3 2) nothing
 expr_step ahead (Expr-F.SetModule class of) = node_size (form 4 2) (beside nothing of)
 
--- a pattern, tested as a part of another: reading the part is counted with it
+-- a pattern, tested as a part of another: reading the part is counted with it; with a test for a type 12 bytes for what a
+-- conversion to Int takes more than any other, where a variable of that type stands in front
 abbrev pub pattern_step : Pattern-F Size Size Size Size → Size
 pattern_step Pattern-F.«Pattern::Any» = node_size (form 0 0) nothing
 pattern_step (Pattern-F.Bind local p) = node_size (form 29 3) (beside nothing p)
-pattern_step (Pattern-F.OfType type) = node_size (form 13 3) nothing
+pattern_step (Pattern-F.OfType type) = node_size (form 25 3) nothing
 pattern_step (Pattern-F.Literal e) = node_size (form 21 3) (beside nothing e)
 pattern_step (Pattern-F.Object class) = node_size (form 27 5) nothing
 pattern_step (Pattern-F.Make class parts) = make_size (together parts)

@@ -3,6 +3,7 @@
 ghost use Rattle.std.specs.Prelude.{IsTrue, ℕ, ◌≤◌, ◌+◌, ◌*◌, List, [], ◌∷◌, Option, Some, None};
 ghost use Rattle.ty_prog.specs.declared.catch.Catch.TheOpen.{Expr-F, Catch-F, Pattern-F, Case-F};
 ghost use Rattle.ty_prog.specs.declared.prim_op.PrimOp.{PrimOp};
+ghost use Rattle.ty_prog.specs.declared.ty.Ty.TheVariants as ty;
 ghost use Rattle.ty_prog.specs.declared.expr.Expr.{Expr};
 ghost use Rattle.ty_prog.specs.declared.case.Case.{Case};
 ghost use Rattle.ty_prog.specs.declared.pattern.Pattern.{Pattern};
@@ -10,10 +11,10 @@ ghost use Rattle.ty_prog.specs.declared.catch.Catch.{Catch};
 ghost use Rattle.ty_room.specs.declared.size.Size.{Size};
 ghost use Rattle.ty_room.specs.Ahead.{ahead_of};
 ghost use Rattle.ty_room.specs.Sizing.{nothing, beside, together, node_size, make_size, case_size, expr_step, handler_step, pattern_step, case_step, expr_size, case_sizes};
-ghost use Rattle.ty_room.specs.Forms.{forms_fit, lowerings_fit, local, part, always, joined, bound, tree_at, tree, this, boxed, called, applied, joined_texts};
+ghost use Rattle.ty_room.specs.Forms.{forms_fit, lowerings_fit, local, part, always, joined, bound, tree_at, tree, type_test, this, boxed, called, applied, joined_texts};
 ghost use Rattle.ty_room.specs.Numbers.{form};
 ghost use Rattle.ty_room.specs.Source.{all_nodes, ExprWorth, CaseWorth, PatternWorth, AllWorth, text_added};
-ghost use Rattle.ty_room.specs.Replaced.{each, TakesNoMore, IsTest, Reads, Tests, ChainFits, kept_first, few_made, many_made, one_of, match_end, matching, catching, of_objects, of_traits, of_lazy_members, of_patterns, cast_part};
+ghost use Rattle.ty_room.specs.Replaced.{each, TakesNoMore, IsTest, Reads, Tests, ChainFits, kept_first, few_made, many_made, one_of, match_end, matching, catching, of_objects, of_traits, of_lazy_members, of_conversions, of_variables, int_bound, of_patterns, cast_part};
 ghost use Rattle.ty_room.specs.NoMore.{NoMore, MakesNoMore, Part, low_expr, high_expr, low_handler, high_handler, low_pattern, high_pattern, low_case, high_case};
 
 /// Each form of source stands for a tree that takes at most 31 bytes and brings at most 5 entries for each of its nodes;
@@ -50,6 +51,8 @@ pub fn replacing()
     ensures objects { each TakesNoMore of_objects }
     ensures traits { (number : ℕ) (of value : Size) (args : List Size) → each TakesNoMore (of_traits number of value args) }
     ensures lazy_members { (of : Size) → each TakesNoMore (of_lazy_members of) }
+    ensures conversions { (k : ℕ) (e : Size) → each TakesNoMore (of_conversions k e) }
+    ensures variables { (rest : Size) → each TakesNoMore (of_variables rest) }
 {}
 
 /// What the lowering of matching puts in place of a pattern without parts and in front of what follows, as a test of a
@@ -58,6 +61,7 @@ pub fn testing()
     ensures of_local { (rest : Size) → each (IsTest 0 rest) (of_patterns local rest) }
     ensures of_part { (rest : Size) → each (IsTest 0 rest) (of_patterns part rest) }
     ensures of_cast_part { (rest : Size) → each (IsTest 3 rest) (of_patterns cast_part rest) }
+    ensures int_variable { (rest : Size) → Tests 0 (type_test local (int_bound rest)) (pattern_step (Pattern-F.OfType ty.Int)) (bound local rest) }
 {}
 
 /// What the lowering of matching puts in place of a pattern with parts, of a case, of a match and of a handler with cases,

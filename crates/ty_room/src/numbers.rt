@@ -158,6 +158,7 @@ pub(crate) fn convert_bytes(to: Ty) -> u32
     ensures few { result ≤ 100 }
 {
     match to {
+        Ty::Int => 17,
         Ty::Any => 4,
         Ty::AnyRef => 0,
         Ty::Unit => 5,

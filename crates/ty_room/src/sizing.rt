@@ -240,7 +240,7 @@ fn pattern_size(ahead: Ahead, p: &Pattern) -> Size
             form(29, 3),
             beside(nothing(), pattern_size(ahead, p.get())),
         ),
-        Pattern::OfType(_) => node_size(form(13, 3), nothing()),
+        Pattern::OfType(_) => node_size(form(25, 3), nothing()),
         Pattern::Literal(e) => node_size(form(21, 3), one(ahead, e)),
         Pattern::Object(_) => node_size(form(27, 5), nothing()),
         Pattern::Make { class: _, parts } => make_size(patterns(ahead, parts.as_slice())),
