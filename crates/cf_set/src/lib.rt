@@ -2,9 +2,11 @@
 #![tactic(auto)]
 
 mod built_ins;
+mod file_names;
 mod names;
 mod pool;
 
 pub use built_ins::built_in_names;
+pub use file_names::add_files;
 pub use names::Names;
 pub use pool::{class_named, name_of, text_at};
