@@ -123,18 +123,26 @@ place_before a b j n i m alike (before.index _ _ _ _ less) = inr (refl, less)
 -- a file with the first such entry
 pub first_no_class : (files : List ClassFile) (i place : ℕ) (file : ClassFile) (names : List (List ℕ)) → names ≡ names_of files → slice_get files i ≡ Some file
     → LacksAt names file.pool place → NoneBefore (LacksAt names file.pool) place → NoneMissing files i → IsFirstNoClass files (i, place)
-first_no_class files i place file names are there lacks first none =
-    (file, says.name, there, ap (text_of file.pool) (entry_at file.pool place) ∙ at ∙ says.named, record {
-      is = no_class i (place + 1) says.text file says.name there (entry_at file.pool place ∙ lacks.1 ∙ ap Some says.is) says.named (λ has. true≢false (sym has ∙ new));
-      first = λ j n name fault earlier. refuted j n name (says_no_class files j n name fault) (place_before NoClass NoClass j n i (place + 1) refl earlier);
-    })
+first_no_class files i place file names are there lacks first none = (
+  file,
+  says.name,
+  there,
+  ap (text_of file.pool) (entry_at file.pool place) ∙ at ∙ says.named,
+  record {
+    is = no_class i (place + 1) says.text file says.name there (entry_at file.pool place ∙ lacks.1 ∙ ap Some says.is) says.named (λ has. true≢false (sym has ∙ new));
+    first = λ j n name fault earlier. refuted j n name (says_no_class files j n name fault) (place_before NoClass NoClass j n i (place + 1) refl earlier);
+  },
+)
   where
     says : SaysLacks names file.pool lacks.0
     says = says_lacks names file.pool lacks.0 lacks.2
+
     new : has_text (names_of files) says.name ≡ false
     new = ap (λ names. has_text names says.name) (sym are) ∙ says.new
+
     at : text_of file.pool (slice_get file.pool place) ≡ text_at file.pool says.text
     at = ap (text_of file.pool) (lacks.1 ∙ ap Some says.is)
+
     refuted : (j n : ℕ) (name : List ℕ) → SaysNoClass files j n name → (j < i) ⊎ ((j ≡ i) × (n < place + 1)) → ⊥
     refuted j n name other (inl less) = none j less (other.file, other.place, other.there, other.lacks)
     refuted j n name other (inr (same, less)) =

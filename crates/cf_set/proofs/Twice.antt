@@ -75,10 +75,14 @@ one_more files i names after file named there is_new put = record {
 -- a file whose name is there is the first
 pub first_twice : (files : List ClassFile) (i : ℕ) (names : List (List ℕ)) (file : ClassFile) → AreNamed files i names → slice_get files i ≡ Some file
     → has_text names (name_of file) ≡ true → IsFirstTwice files i
-first_twice files i names file named there again = (file, there, record {
-  is = twice i file there (ap (λ names. has_text names (name_of file)) (names_before files i ∙ sym named.names_are) ∙ again);
-  first = λ j n name fault before. refuted j n name (says_twice files j n name fault) (earlier Twice Twice j n i 0 refl refl before);
-})
+first_twice files i names file named there again = (
+  file,
+  there,
+  record {
+    is = twice i file there (ap (λ names. has_text names (name_of file)) (names_before files i ∙ sym named.names_are) ∙ again);
+    first = λ j n name fault before. refuted j n name (says_twice files j n name fault) (earlier Twice Twice j n i 0 refl refl before);
+  },
+)
   where
     refuted : (j n : ℕ) (name : List ℕ) → SaysTwice files j n name → j < i → ⊥
     refuted j n name says less =
@@ -92,4 +96,4 @@ none_twice files i names all named = (λ j n name fault. refuted j n name (says_
     refuted j n name says =
         true≢false
         (sym says.again ∙ ap (λ names. has_text names (name_of says.file)) (names_before files j)
-         ∙ named.new j says.file (omega (arith, slice_get_within files j says.file says.there, all)) says.there)
+        ∙ named.new j says.file (omega (arith, slice_get_within files j says.file says.there, all)) says.there)

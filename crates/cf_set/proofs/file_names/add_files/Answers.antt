@@ -12,7 +12,7 @@ returns-then-not-branch c =
     let file = c.index-files-i.result in
     let there : slice_get files c.loop-i.i ≡ Some file = slice_get_read files _ c.loop-i.i file refl c.loop-i-test.true c.index-files-i.is in
     let again : has_text c.loop-i.names (name_of file) ≡ true =
-        ap (has_text c.loop-i.names) (sym c.name_of.ensures) ∙ not-false _ (sym c.in_ok-add.ensures.is_new ∙ c.if-not-branch.true) in
+    ap (has_text c.loop-i.names) (sym c.name_of.ensures) ∙ not-false _ (sym c.in_ok-add.ensures.is_new ∙ c.if-not-branch.true) in
     first_twice files c.loop-i.i c.loop-i.names file c.loop-i.invariant there again
 
 pub loop-i-preserved : goal.loop-i-preserved
@@ -21,7 +21,7 @@ loop-i-preserved c =
     let file = c.index-files-i.result in
     let there : slice_get files c.loop-i.i ≡ Some file = slice_get_read files _ c.loop-i.i file refl c.loop-i-test.true c.index-files-i.is in
     let is_new : has_text c.loop-i.names (name_of file) ≡ false =
-        ap (has_text c.loop-i.names) (sym c.name_of.ensures) ∙ not-true _ (sym c.in_ok-add.ensures.is_new ∙ c.if-not-branch.false) in
+    ap (has_text c.loop-i.names) (sym c.name_of.ensures) ∙ not-true _ (sym c.in_ok-add.ensures.is_new ∙ c.if-not-branch.false) in
     one_more files c.loop-i.i c.loop-i.names c.add.new.self file c.loop-i.invariant there is_new
     (c.in_ok-add.ensures.names ∙ ap (with_name c.loop-i.names) c.name_of.ensures)
 
