@@ -1,4 +1,4 @@
-//! Names of the classes of class files that are to be linked, and what indexes of their pools name (JVMS 4.4, 5.3).
+//! The first stages of linking class files: names of classes, and a class given twice or missing (JVMS 4.4, 5.3).
 #![tactic(auto)]
 
 mod built_ins;
