@@ -1,2 +1,4 @@
 mod Spelling
 mod BuiltInNames
+mod Twice
+mod Missing
