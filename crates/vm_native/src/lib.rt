@@ -3,6 +3,7 @@
 
 mod boxes;
 mod latches;
+mod names;
 mod objects;
 mod results;
 mod strings;
@@ -10,6 +11,7 @@ mod throwables;
 
 pub use boxes::{box_boolean, box_int, box_long, unbox_boolean, unbox_int, unbox_long};
 pub use latches::{await_latch, count_down, latch, owned_here};
+pub use names::class_text;
 pub use objects::{object_equals, object_init};
 pub use results::{give, give_one};
 pub use strings::{concat, println, string_is_empty, string_length};
