@@ -2,6 +2,7 @@
 #![tactic(auto)]
 
 mod boxes;
+mod kinds;
 mod latches;
 mod names;
 mod objects;
