@@ -6,7 +6,7 @@ use Rattle.std.proofs.lemmas.Str.{chars-append, chars-encodes, chars-nil}
 use Rattle.std.proofs.Math.Utf8.{scalar, scalars}
 use Rattle.std.specs.Char.{IsScalar, encode_utf8}
 use Rattle.std.specs.List.{list_any}
-use Rattle.std.specs.Prelude.{if◌then◌else◌}
+use Rattle.std.specs.Prelude.{if◌then◌else◌, codes}
 use Rattle.std.specs.Str.{chars, IsUtf8}
 use Rattle.vm_state.specs.Heaps.{last_part, without_dollar}
 
@@ -64,3 +64,7 @@ no_bytes (b ∷ bytes) e = absurd (omega (arith, e))
 
 pub empty_text : {Z : Type 0} (s : String Z) → string_len s ≡ 0 → chars (string_bytes s) ≡ []
 empty_text s e = no_bytes (string_bytes s) (sym s.bytes.ok.0 ∙ e)
+
+pub null_chars : chars (codes "null") ≡ codes "null"
+unfolding chars
+null_chars = refl

@@ -11,6 +11,7 @@ mod strings;
 mod throwables;
 
 pub use boxes::{box_boolean, box_int, box_long, unbox_boolean, unbox_int, unbox_long};
+pub use kinds::kind_of;
 pub use latches::{await_latch, count_down, latch, owned_here};
 pub use names::class_text;
 pub use objects::{object_equals, object_init};
