@@ -68,3 +68,15 @@ empty_text s e = no_bytes (string_bytes s) (sym s.bytes.ok.0 ∙ e)
 pub null_chars : chars (codes "null") ≡ codes "null"
 unfolding chars
 null_chars = refl
+
+pub true_chars : chars (codes "true") ≡ codes "true"
+unfolding chars
+true_chars = refl
+
+pub false_chars : chars (codes "false") ≡ codes "false"
+unfolding chars
+false_chars = refl
+
+pub unit_chars : chars (codes "()") ≡ codes "()"
+unfolding chars
+unit_chars = refl

@@ -13,7 +13,7 @@ use vm_state::{Frame, Heap, HeapEffect, StuckKind, Value, class_of};
 
 /// A new text in the place of the top operand.
 #[tactic(auto, using(crate::proofs::Widths::width_some))]
-fn give_text(h: &mut Heap, f: &mut Frame, text: Name) -> HeapEffect
+pub(crate) fn give_text(h: &mut Heap, f: &mut Frame, text: Name) -> HeapEffect
     requires pc { f.old.pc < 65535 }
     requires some { 0 < length f.old.stack.values }
     ensures { Shares (gives_text h.old f.old (drop 1 f.old.stack.values) text) result h.old h.new f.old f.new }
