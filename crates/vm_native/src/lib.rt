@@ -2,15 +2,23 @@
 #![tactic(auto)]
 
 mod boxes;
+mod kinds;
 mod latches;
+mod names;
+mod numbers;
 mod objects;
 mod results;
 mod strings;
+mod telling;
 mod throwables;
 
 pub use boxes::{box_boolean, box_int, box_long, unbox_boolean, unbox_int, unbox_long};
+pub use kinds::kind_of;
 pub use latches::{await_latch, count_down, latch, owned_here};
+pub use names::class_text;
+pub use numbers::decimal_text;
 pub use objects::{object_equals, object_init};
 pub use results::{give, give_one};
 pub use strings::{concat, println, string_is_empty, string_length};
+pub use telling::object_to_string;
 pub use throwables::{get_message, thread_init, throwable_init, throwable_init_text};
