@@ -3,7 +3,9 @@
 
 mod editing;
 mod lane;
+mod levels;
 
 pub use editing::make_edit;
 pub use lane::Lane;
+pub use levels::{begin_child, end_node};
 pub use sl_base::NoMemory;
