@@ -57,3 +57,30 @@ pub fn end_node(c: &mut Context<'_>, taken: usize) -> bool
         }
     }
 }
+
+fn renumber(level: &mut Level<'_>, number: u32)
+    ensures { level.new ≡ record { node = level.old.node; child = number } }
+{
+    level.child = number;
+}
+
+/// Another child of the node of the innermost level begins, after so many operands were dropped; answers whether there
+/// is one.
+pub fn turn(c: &mut Context<'_>, number: u32, taken: usize) -> bool
+    ensures there { result ≡ is_some (turned taken number c.old c.old.levels) }
+    ensures left { c.new ≡ unwrap_or (turned taken number c.old c.old.levels) c.old }
+{
+    let node = match c.levels.top() {
+        None => return false,
+        Some(level) => level.node.node(),
+    };
+    match child(node, number as usize) {
+        None => false,
+        Some(next) => {
+            renumber(c.levels.top_mut(), number);
+            c.node = Spot::new(next);
+            c.operands.take_off(taken);
+            true
+        }
+    }
+}

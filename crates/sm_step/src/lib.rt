@@ -3,9 +3,11 @@
 
 mod editing;
 mod lane;
+mod leaving;
 mod levels;
 
 pub use editing::make_edit;
 pub use lane::Lane;
-pub use levels::{begin_child, end_node};
+pub use leaving::{awaits_object, dropped, noted};
+pub use levels::{begin_child, end_node, turn};
 pub use sl_base::NoMemory;
