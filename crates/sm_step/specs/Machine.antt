@@ -1,0 +1,28 @@
+-- The state of a machine, as a state of the system `meaning` of its program.
+use Rattle.std.specs.Prelude.{ℕ, zero, suc, List, [], ◌∷◌, length, Option, Some, None, slice_get}
+use Rattle.runs.specs.SharedHeap.{HeapState}
+use Rattle.sm_state.specs.Entering.{begun_thread}
+use Rattle.sm_state.specs.declared.heap.Heap.{Heap}
+use Rattle.sm_state.specs.declared.thread.Context.{Context}
+use Rattle.sm_state.specs.declared.thread.Thread.{Thread}
+use Rattle.sm_step.specs.declared.lane.Lane.{Lane}
+
+-- the contexts of a thread; none where there is no innermost one
+abbrev pub contexts_of : Option Context → List Context → List Context
+contexts_of None below = []
+contexts_of (Some c) below = c ∷ below
+
+abbrev pub thread_of : Lane → Thread
+thread_of l = record { contexts = contexts_of l.inner l.below; value = l.value; thrown = l.thrown }
+
+-- the thread with this number, counted from 1; one that isn't there has ended
+abbrev pub thread_or_ended : Option Lane → Thread
+thread_or_ended None = begun_thread None
+thread_or_ended (Some l) = thread_of l
+
+abbrev pub numbered : List Lane → ℕ → Thread
+numbered lanes zero = begun_thread None
+numbered lanes (suc t) = thread_or_ended (slice_get lanes t)
+
+abbrev pub state_of : Heap → List Lane → HeapState Heap Thread
+state_of h lanes = record { heap = h; count = length lanes; threads = numbered lanes }
