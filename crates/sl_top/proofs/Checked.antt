@@ -1,6 +1,7 @@
 -- What comes of a call of `check FILE`, where the shelf tells its files.
-use Rattle.std.proofs.Common.{◌≡◌, ◌⊎◌, inl, inr, ℕ, ◌<◌, ◌≤◌, List, [], length, IsTrue, Option, None, Some, refl, sym, subst, arith, encode_utf8_all, IsSomeAnd}
+use Rattle.std.proofs.Common.{◌≡◌, ◌⊎◌, inl, inr, ℕ, ◌<◌, ◌≤◌, List, [], length, IsTrue, Option, None, Some, Bool, true, false, ◌==◌, if◌then◌else◌, ◌∙◌, ap, refl, sym, subst, arith, encode_utf8_all, IsSomeAnd}
 use Rattle.sl_ast.specs.declared.unit.Unit as file_tree
+use Rattle.runs.specs.declared.Turn.{Turn}
 use Rattle.sl_io.specs.Files.{SameFiles}
 use Rattle.sl_source.specs.declared.refusal.Refusal.{Refusal}
 use Rattle.sl_source.specs.Source as of_bytes
@@ -8,11 +9,18 @@ use Rattle.sl_top.specs.declared.outcome.Outcome.{Outcome}
 use Rattle.sl_top.specs.declared.outcome.Outcome.TheVariants.{Printed, NotBuilt, Refused, ShelfFault, OutFault, Usage, Memory, Missing, Long}
 use Rattle.sl_top.specs.declared.finished.Finished.{Finished}
 use Rattle.sl_top.specs.declared.source_file.TheConstants.{SOURCE_LIMIT}
-use Rattle.sl_top.specs.Outcome.{Told}
+use Rattle.sl_top.specs.Outcome.{Told, schedule_at}
 use Rattle.sl_top.specs.Outside.{ShelfSeen, SinkSeen, IsUntouched}
 use Rattle.sl_top.specs.Fetched.{IsSource, IsUnread}
 use Rattle.sl_top.specs.Check.{IsFound, not_built, refused, IsChecked, unread, found, forgotten, IsDue, missing, long, read, IsDueBut, Checks}
 use Rattle.sl_top.proofs.Exactly.{one_file, no_file, too_long}
+
+-- where nothing ran, no schedule is handed out
+none_scheduled : (status : ℕ) (schedule : List Turn) → schedule ≡ [] → schedule_at status schedule ≡ []
+none_scheduled status schedule e = ap (schedule_at status) e ∙ either (status == 7) where
+  either : (b : Bool) → (if b then ([] : List Turn) else []) ≡ []
+  either true = refl
+  either false = refl
 
 module _ (tree_once : (bytes : List ℕ) (one other : file_tree.Unit) → of_bytes.IsSource bytes one → of_bytes.IsSource bytes other → one ≡ other)
     (fault_once : (bytes : List ℕ) (one other : Refusal) → of_bytes.FirstFault bytes one → of_bytes.FirstFault bytes other → one ≡ other)
@@ -65,15 +73,15 @@ module _ (tree_once : (bytes : List ℕ) (one other : file_tree.Unit) → of_byt
     checked_due outcome due (found {bytes = source} calm s f) d = found_due outcome source d refl s f
     checked_due outcome due (forgotten calm e) d = inr (inr e)
 
-  pub checks_of : (name text : List ℕ) (shelf : ShelfSeen) (out err : SinkSeen) (outcome : Outcome) (finished : Finished)
-      → text ≡ encode_utf8_all name → IsChecked shelf name outcome → Told outcome text err finished.status → IsUntouched out
-      → finished.schedule ≡ [] → finished.files ≡ [] → SameFiles shelf.file shelf.file_after → Checks name shelf out err finished
-  checks_of name text shelf out err outcome finished named checked told quiet unrun files put = record {
+  pub checks_of : (name text : List ℕ) (shelf : ShelfSeen) (out err : SinkSeen) (outcome ended : Outcome) (schedule : List Turn) (finished : Finished)
+      → text ≡ encode_utf8_all name → IsChecked shelf name outcome → ended ≡ outcome → Told ended text err finished.status → IsUntouched out
+      → finished.schedule ≡ schedule_at finished.status schedule → schedule ≡ [] → finished.files ≡ [] → SameFiles shelf.file shelf.file_after → Checks name shelf out err finished
+  checks_of name text shelf out err outcome ended schedule finished named checked is told quiet scheduled unrun files put = record {
     outcome = outcome;
     checked = checked;
-    told = subst (λ t. Told outcome t err finished.status) named told;
+    told = subst (λ (o : Outcome). Told o (encode_utf8_all name) err finished.status) is (subst (λ (t : List ℕ). Told ended t err finished.status) named told);
     quiet = quiet;
-    unrun = unrun;
+    unrun = scheduled ∙ none_scheduled finished.status schedule unrun;
     files = files;
     nothing_put = put;
     exactly = λ tells due d. checked_due shelf name tells outcome due checked d;

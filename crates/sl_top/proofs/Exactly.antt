@@ -9,9 +9,21 @@ use Rattle.sl_top.specs.declared.source_file.TheConstants.{SOURCE_LIMIT}
 use Rattle.sl_top.specs.Outcome.{status_of, Told, schedule_at, Yields}
 use Rattle.sl_top.specs.Listing.{IsListing}
 use Rattle.sl_top.specs.Outside.{ShelfSeen, SinkSeen}
-use Rattle.sl_top.specs.Fetched.{IsSource}
+use Rattle.sl_top.specs.Fetched.{IsSource, IsUnread}
 use Rattle.sl_top.specs.Printing.{IsNotBuilt, PrintsFile}
 use Rattle.sl_top.specs.Run.{Cause, EndsPrinting, EndsRun, Runs, IsDue, missing, long, not_built, printed}
+
+-- why a file wasn't had is why it isn't run
+pub unread_cause : (outcome : Outcome) (shelf : ShelfSeen) (name : List ℕ) → IsUnread outcome shelf name → Cause outcome shelf name
+unread_cause Missing shelf name u = u
+unread_cause Long shelf name u = u
+unread_cause ShelfFault shelf name u = u
+unread_cause Memory shelf name u = u
+unread_cause NotBuilt shelf name u = absurd u
+unread_cause (Refused r) shelf name u = absurd u
+unread_cause Printed shelf name u = absurd u
+unread_cause OutFault shelf name u = absurd u
+unread_cause Usage shelf name u = absurd u
 
 -- what is told of an outcome yields its status
 told_yields : (outcome : Outcome) (name : List ℕ) (err : SinkSeen) (status : ℕ) → Told outcome name err status → Yields status (status_of outcome)
