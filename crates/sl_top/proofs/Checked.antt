@@ -1,5 +1,5 @@
 -- What comes of a call of `check FILE`, where the shelf tells its files.
-use Rattle.std.proofs.Common.{◌≡◌, ◌⊎◌, inl, inr, ℕ, ◌<◌, ◌≤◌, List, [], length, IsTrue, Option, None, Some, Bool, true, false, ◌==◌, if◌then◌else◌, ◌∙◌, ap, refl, sym, subst, arith, encode_utf8_all, IsSomeAnd}
+use Rattle.std.proofs.Common.{◌≡◌, ◌⊎◌, inl, inr, ℕ, ◌<◌, ◌≤◌, List, [], length, IsTrue, Option, None, Some, Bool, true, false, ◌==◌, if◌then◌else◌, ◌∙◌, refl, sym, subst, arith, encode_utf8_all, IsSomeAnd}
 use Rattle.sl_ast.specs.declared.unit.Unit as file_tree
 use Rattle.runs.specs.declared.Turn.{Turn}
 use Rattle.sl_io.specs.Files.{SameFiles}
@@ -10,17 +10,22 @@ use Rattle.sl_top.specs.declared.outcome.Outcome.TheVariants.{Printed, NotBuilt,
 use Rattle.sl_top.specs.declared.finished.Finished.{Finished}
 use Rattle.sl_top.specs.declared.source_file.TheConstants.{SOURCE_LIMIT}
 use Rattle.sl_top.specs.Outcome.{Told, schedule_at}
-use Rattle.sl_top.specs.Outside.{ShelfSeen, SinkSeen, IsUntouched}
+use Rattle.sl_top.specs.Outside.{ShelfSeen, SinkSeen, IsCalm, IsUntouched}
 use Rattle.sl_top.specs.Fetched.{IsSource, IsUnread}
 use Rattle.sl_top.specs.Check.{IsFound, not_built, refused, IsChecked, unread, found, forgotten, IsDue, missing, long, read, IsDueBut, Checks}
 use Rattle.sl_top.proofs.Exactly.{one_file, no_file, too_long}
 
 -- where nothing ran, no schedule is handed out
 none_scheduled : (status : ℕ) (schedule : List Turn) → schedule ≡ [] → schedule_at status schedule ≡ []
-none_scheduled status schedule e = ap (schedule_at status) e ∙ either (status == 7) where
-  either : (b : Bool) → (if b then ([] : List Turn) else []) ≡ []
-  either true = refl
-  either false = refl
+none_scheduled status schedule e = either (status == 7) schedule e where
+  either : (b : Bool) (xs : List Turn) → xs ≡ [] → (if b then [] else xs) ≡ []
+  either true xs f = refl
+  either false xs f = f
+
+-- what is found of the bytes that were had, unless memory runs out
+pub checked_of : (shelf : ShelfSeen) (name bytes : List ℕ) (outcome : Outcome) → IsCalm shelf → IsSource shelf.tells shelf.file name bytes → (outcome ≡ Memory) ⊎ IsFound bytes outcome → IsChecked shelf name outcome
+checked_of shelf name bytes outcome calm s (inl e) = forgotten calm e
+checked_of shelf name bytes outcome calm s (inr f) = found calm s f
 
 module _ (tree_once : (bytes : List ℕ) (one other : file_tree.Unit) → of_bytes.IsSource bytes one → of_bytes.IsSource bytes other → one ≡ other)
     (fault_once : (bytes : List ℕ) (one other : Refusal) → of_bytes.FirstFault bytes one → of_bytes.FirstFault bytes other → one ≡ other)
@@ -35,7 +40,7 @@ module _ (tree_once : (bytes : List ℕ) (one other : file_tree.Unit) → of_byt
   module _ (shelf : ShelfSeen) (name : List ℕ) (tells : IsTrue shelf.tells) where
     unread_missing : (outcome : Outcome) → None ≡ shelf.file (encode_utf8_all name) → IsUnread outcome shelf name → IsDueBut outcome Missing
     unread_missing Missing is c = inl refl
-    unread_missing Long is c = let k : IsSomeAnd None (λ bytes. SOURCE_LIMIT < length bytes) = subst (λ (o : Option (List ℕ)). IsSomeAnd o (λ bytes. SOURCE_LIMIT < length bytes)) (sym is) (c.1 tells) in absurd k
+    unread_missing Long is c = let k : ⊥ = subst (λ (o : Option (List ℕ)). IsSomeAnd o (λ (bytes : List ℕ). SOURCE_LIMIT < length bytes)) (sym is) (c.1 tells) in absurd k
     unread_missing ShelfFault is c = inr (inl refl)
     unread_missing Memory is c = inr (inr refl)
     unread_missing outcome is c = absurd c

@@ -5,6 +5,9 @@ use Rattle.std.proofs.lemmas.Slice.Eq.{bytes_eq-Decides}
 use Rattle.sl_top.specs.declared.request.Options.{Options}
 use Rattle.sl_top.specs.declared.request.Request.{Request}
 use Rattle.sl_top.specs.declared.request.Request.TheVariants.{Run, Check}
+use Rattle.sl_top.specs.declared.finished.Finished.{Finished}
+use Rattle.sl_top.specs.Outside.{ShelfSeen, SinkSeen}
+use Rattle.sl_top.specs.Commands.{CarriesOut}
 use Rattle.sl_top.specs.Request.{AsksFor, AsksNothing, defaults}
 
 -- a list of two
@@ -63,3 +66,7 @@ one_asked (Some other) words request h e = let same : other ≡ request = cc in 
 -- the request is the one that the words are said to ask for
 pub asked_is : (found : Option Request) (words : List (List ℕ)) (request wanted : Request) → MatchOption found (AsksNothing words) (AsksFor words) → found ≡ Some request → AsksFor words wanted → request ≡ wanted
 asked_is found words request wanted h e asks = asks_once words request wanted (one_asked found words request h e) asks
+
+-- and so what is carried out is what they ask for
+pub carried : (request wanted : Request) (shelf : ShelfSeen) (out err : SinkSeen) (finished : Finished) → request ≡ wanted → CarriesOut request shelf out err finished → CarriesOut wanted shelf out err finished
+carried request wanted shelf out err finished is c = subst (λ (r : Request). CarriesOut r shelf out err finished) is c
