@@ -30,7 +30,6 @@ checked_of shelf name bytes outcome calm s (inr f) = found calm s f
 module _ (tree_once : (bytes : List ℕ) (one other : file_tree.Unit) → of_bytes.IsSource bytes one → of_bytes.IsSource bytes other → one ≡ other)
     (fault_once : (bytes : List ℕ) (one other : Refusal) → of_bytes.FirstFault bytes one → of_bytes.FirstFault bytes other → one ≡ other)
     (never_both : (bytes : List ℕ) (tree : file_tree.Unit) (r : Refusal) → of_bytes.IsSource bytes tree → of_bytes.FirstFault bytes r → ⊥) where
-
   one_found : {bytes : List ℕ} {one : Outcome} → IsFound bytes one → (other : Outcome) → IsFound bytes other → one ≡ other
   one_found (not_built t) other (not_built u) = refl
   one_found {bytes = bytes} (not_built {tree = t} s) other (refused {r = r} f) = absurd (never_both bytes t r s f)

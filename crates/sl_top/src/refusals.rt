@@ -79,11 +79,7 @@ fn write_byte<E: Sink>(err: &mut E, name: &[u8], at: u32) -> Result<(), SinkFaul
 }
 
 /// Writes the line of the first fault of a file.
-pub fn write_refusal<E: Sink>(
-    err: &mut E,
-    name: &[u8],
-    refusal: Refusal,
-) -> Result<(), SinkFault>
+pub fn write_refusal<E: Sink>(err: &mut E, name: &[u8], refusal: Refusal) -> Result<(), SinkFault>
     ensures whole { OnOk result (Gains (E.contents err.old) (refusal_line name.now refusal) (E.contents err.new)) }
     ensures front { OnErr result (GainsFront (E.contents err.old) (refusal_line name.now refusal) (E.contents err.new)) }
     ensures failed { OnSinkFailed result (Rose (E.faults err.old) (E.faults err.new)) }

@@ -29,7 +29,10 @@ fn stuck_refusal(alloc: Global) -> Result<u8, AllocError> {
 fn checked(alloc: Global, bytes: &[u8], line: &str) -> Result<bool, AllocError> {
     let words = words_of(alloc, &["check", "m.scala"])?;
     let mut files = Vec::new(alloc);
-    files.push((Name::from_text(alloc, "m.scala")?, Vec::from_slice(alloc, bytes)?))?;
+    files.push((
+        Name::from_text(alloc, "m.scala")?,
+        Vec::from_slice(alloc, bytes)?,
+    ))?;
     let mut shelf = MemShelf::new(files, Vec::new(alloc));
     let mut out = sink(alloc, WHOLE)?;
     let mut err = sink(alloc, WHOLE)?;
@@ -64,8 +67,14 @@ fn first_faults_are_told(rt: HostRuntime) -> Result<(), Fail> {
     for (bytes, line) in [
         (b"\xff".as_slice(), "m.scala: byte 0: not UTF-8\n"),
         (b"// \xe2\x82".as_slice(), "m.scala: byte 3: not UTF-8\n"),
-        (b"// \xe2\x82\xac \xc0\x80\n'".as_slice(), "m.scala: byte 7: not UTF-8\n"),
-        (b"/* \xe2\x82\xac */ '".as_slice(), "m.scala:1:9: lex BadChar\n"),
+        (
+            b"// \xe2\x82\xac \xc0\x80\n'".as_slice(),
+            "m.scala: byte 7: not UTF-8\n",
+        ),
+        (
+            b"/* \xe2\x82\xac */ '".as_slice(),
+            "m.scala:1:9: lex BadChar\n",
+        ),
         (
             b"object Main { def main(): Unit = println(1 +) }".as_slice(),
             "m.scala:1:45: parse Unexpected\n",
