@@ -2,16 +2,28 @@
 use Rattle.std.proofs.Common.{◌≡◌, ◌∙◌, ℕ, ◌<◌, ◌≤◌, List, [], ◌∷◌, length, codes, ap, IsTrue, Option, None, Some, inl, inr, refl, sym, subst, arith, encode_utf8_all, IsSomeAnd}
 use Rattle.runs.specs.declared.Turn.{Turn}
 use Rattle.sl_top.specs.declared.outcome.Outcome.{Outcome}
-use Rattle.sl_top.specs.declared.outcome.Outcome.TheVariants.{Printed, NotBuilt, ShelfFault, OutFault, Usage, Memory, Missing, Long}
+use Rattle.sl_top.specs.declared.outcome.Outcome.TheVariants.{Printed, NotBuilt, Refused, ShelfFault, OutFault, Usage, Memory, Missing, Long}
 use Rattle.sl_io.specs.Files.{SameFiles}
 use Rattle.sl_top.specs.declared.finished.Finished.{Finished}
 use Rattle.sl_top.specs.declared.source_file.TheConstants.{SOURCE_LIMIT}
 use Rattle.sl_top.specs.Outcome.{status_of, Told, schedule_at, Yields}
 use Rattle.sl_top.specs.Listing.{IsListing}
 use Rattle.sl_top.specs.Outside.{ShelfSeen, SinkSeen}
-use Rattle.sl_top.specs.Printing.{IsNotBuilt, IsSource, PrintsFile}
-use Rattle.sl_top.specs.Request.{AsksToRun}
+use Rattle.sl_top.specs.Fetched.{IsSource, IsUnread}
+use Rattle.sl_top.specs.Printing.{IsNotBuilt, PrintsFile}
 use Rattle.sl_top.specs.Run.{Cause, EndsPrinting, EndsRun, Runs, IsDue, missing, long, not_built, printed}
+
+-- why a file wasn't had is why it isn't run
+pub unread_cause : (outcome : Outcome) (shelf : ShelfSeen) (name : List ℕ) → IsUnread outcome shelf name → Cause outcome shelf name
+unread_cause Missing shelf name u = u
+unread_cause Long shelf name u = u
+unread_cause ShelfFault shelf name u = u
+unread_cause Memory shelf name u = u
+unread_cause NotBuilt shelf name u = absurd u
+unread_cause (Refused r) shelf name u = absurd u
+unread_cause Printed shelf name u = absurd u
+unread_cause OutFault shelf name u = absurd u
+unread_cause Usage shelf name u = absurd u
 
 -- what is told of an outcome yields its status
 told_yields : (outcome : Outcome) (name : List ℕ) (err : SinkSeen) (status : ℕ) → Told outcome name err status → Yields status (status_of outcome)
@@ -25,14 +37,14 @@ yields_on status between due (inl e) y = rw e y
 yields_on status between due (inr e) y = inr e
 
 -- a name has one file
-one_file : (file : Option (List ℕ)) (one other : List ℕ) → Some one ≡ file → file ≡ Some other → one ≡ other
+pub one_file : (file : Option (List ℕ)) (one other : List ℕ) → Some one ≡ file → file ≡ Some other → one ≡ other
 one_file file one other e f = cc
 
-no_file : (file : Option (List ℕ)) (one : List ℕ) → None ≡ file → file ≡ Some one → ⊥
+pub no_file : (file : Option (List ℕ)) (one : List ℕ) → None ≡ file → file ≡ Some one → ⊥
 no_file file one e f = cc
 
 -- the file isn't longer than the limit, and longer
-too_long : (file : Option (List ℕ)) (bytes : List ℕ) → Some bytes ≡ file → length bytes ≤ SOURCE_LIMIT → IsSomeAnd file (λ found. SOURCE_LIMIT < length found) → ⊥
+pub too_long : (file : Option (List ℕ)) (bytes : List ℕ) → Some bytes ≡ file → length bytes ≤ SOURCE_LIMIT → IsSomeAnd file (λ found. SOURCE_LIMIT < length found) → ⊥
 too_long file bytes is short more = let k : IsSomeAnd (Some bytes) (λ found. SOURCE_LIMIT < length found) = subst (λ (o : Option (List ℕ)). IsSomeAnd o (λ found. SOURCE_LIMIT < length found)) (sym is) more in omega arith
 
 module _ (shelf : ShelfSeen) (name : List ℕ) (tells : IsTrue shelf.tells) where
@@ -54,6 +66,7 @@ module _ (shelf : ShelfSeen) (name : List ℕ) (tells : IsTrue shelf.tells) wher
   missing_unrun ShelfFault is c = inr (inl refl)
   missing_unrun NotBuilt is c = let b = c.1 in absurd (not_given b.0 is b.1)
   missing_unrun Memory is c = inr (inr refl)
+  missing_unrun (Refused r) is c = absurd c
   missing_unrun Printed is c = absurd c
   missing_unrun OutFault is c = absurd c
   missing_unrun Usage is c = absurd c
@@ -64,6 +77,7 @@ module _ (shelf : ShelfSeen) (name : List ℕ) (tells : IsTrue shelf.tells) wher
   long_unrun ShelfFault bytes is more c = inr (inl refl)
   long_unrun NotBuilt bytes is more c = let b = c.1 in absurd (given_short bytes b.0 is more b.1)
   long_unrun Memory bytes is more c = inr (inr refl)
+  long_unrun (Refused r) bytes is more c = absurd c
   long_unrun Printed bytes is more c = absurd c
   long_unrun OutFault bytes is more c = absurd c
   long_unrun Usage bytes is more c = absurd c
@@ -74,6 +88,7 @@ module _ (shelf : ShelfSeen) (name : List ℕ) (tells : IsTrue shelf.tells) wher
   not_built_unrun ShelfFault bytes is short c = inr (inl refl)
   not_built_unrun NotBuilt bytes is short c = inl refl
   not_built_unrun Memory bytes is short c = inr (inr refl)
+  not_built_unrun (Refused r) bytes is short c = absurd c
   not_built_unrun Printed bytes is short c = absurd c
   not_built_unrun OutFault bytes is short c = absurd c
   not_built_unrun Usage bytes is short c = absurd c
@@ -84,6 +99,7 @@ module _ (shelf : ShelfSeen) (name : List ℕ) (tells : IsTrue shelf.tells) wher
   printed_unrun ShelfFault bytes is short built c = inr (inl refl)
   printed_unrun NotBuilt bytes is short built c = let b = c.1 in absurd (built (subst IsNotBuilt (given bytes b.0 is b.1) b.2))
   printed_unrun Memory bytes is short built c = inr (inr refl)
+  printed_unrun (Refused r) bytes is short built c = absurd c
   printed_unrun Printed bytes is short built c = absurd c
   printed_unrun OutFault bytes is short built c = absurd c
   printed_unrun Usage bytes is short built c = absurd c
@@ -100,6 +116,7 @@ module _ (shelf : ShelfSeen) (name : List ℕ) (tells : IsTrue shelf.tells) wher
   printed_run OutFault out text e = inr (inl refl)
   printed_run Memory out text e = inr (inr refl)
   printed_run NotBuilt out text e = absurd e
+  printed_run (Refused r) out text e = absurd e
   printed_run ShelfFault out text e = absurd e
   printed_run Usage out text e = absurd e
   printed_run Missing out text e = absurd e
@@ -123,22 +140,19 @@ pub exactly_due : (name : List ℕ) (shelf : ShelfSeen) (out err : SinkSeen) (ou
 exactly_due name shelf out err outcome schedule status ends told tells due d =
     yields_on status (status_of outcome) due (told_yields outcome (encode_utf8_all name) err status told) (ends_yields shelf name tells outcome out schedule due ends d)
 
--- a call that ran the file that the words name
-pub runs_of : (words : List (List ℕ)) (asked name text : List ℕ) (shelf : ShelfSeen) (out err : SinkSeen) (outcome : Outcome) (schedule : List Turn) (finished : Finished)
-    → words ≡ codes "run" ∷ asked ∷ [] → AsksToRun words name → text ≡ encode_utf8_all asked
-    → EndsRun outcome asked shelf out schedule → Told outcome text err finished.status
+-- a call that ran the file of a name
+pub runs_of : (name text : List ℕ) (shelf : ShelfSeen) (out err : SinkSeen) (outcome : Outcome) (schedule : List Turn) (finished : Finished)
+    → text ≡ encode_utf8_all name → EndsRun outcome name shelf out schedule → Told outcome text err finished.status
     → finished.schedule ≡ schedule_at finished.status schedule → finished.files ≡ [] → SameFiles shelf.file shelf.file_after → Runs name shelf out err finished
-runs_of words asked name text shelf out err outcome schedule finished is asks named ends told scheduled files put =
-    let same : asked ≡ name = (let e = asks.0 in cc) in
-    let here : EndsRun outcome name shelf out schedule = subst (λ n. EndsRun outcome n shelf out schedule) same ends in
-    let line : Told outcome (encode_utf8_all name) err finished.status = subst (λ t. Told outcome t err finished.status) (named ∙ ap encode_utf8_all same) told in
+runs_of name text shelf out err outcome schedule finished named ends told scheduled files put =
+    let line : Told outcome (encode_utf8_all name) err finished.status = subst (λ t. Told outcome t err finished.status) named told in
     record {
       outcome = outcome;
       schedule = schedule;
-      ends = here;
+      ends = ends;
       told = line;
       scheduled = scheduled;
       files = files;
       nothing_put = put;
-      exactly = exactly_due name shelf out err outcome schedule finished.status here line;
+      exactly = exactly_due name shelf out err outcome schedule finished.status ends line;
     }

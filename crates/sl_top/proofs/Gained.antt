@@ -1,4 +1,4 @@
-use Rattle.std.proofs.Common.{◌≡◌, ℕ, List, ◌++◌, Option, Some, None, Result, Ok, Err, OnErr, ap, ◌∙◌, sym, append_assoc}
+use Rattle.std.proofs.Common.{◌≡◌, ℕ, List, ◌++◌, Option, Some, None, Result, Ok, Err, OnOk, OnErr, ap, ◌∙◌, sym, append_assoc}
 use Rattle.std.specs.Option.{option_map}
 use Rattle.sl_io.specs.Gains.{Gains, GainsFront}
 
@@ -24,3 +24,8 @@ on_err (Err e) P p = p
 pub on_err_from : {T E : Type 0} (r : Result T E) (P Q : Type 0) → (P → Q) → OnErr r P → OnErr r Q
 on_err_from (Ok x) P Q f p = tt
 on_err_from (Err e) P Q f p = f p
+
+-- what follows from a fact at an Ok
+pub on_ok_from : {T E : Type 0} (r : Result T E) (P Q : Type 0) → (P → Q) → OnOk r P → OnOk r Q
+on_ok_from (Ok x) P Q f p = f p
+on_ok_from (Err e) P Q f p = tt

@@ -1,3 +1,4 @@
+pub mod Checked
 pub mod Digits
 pub mod Emitted
 pub mod Exactly

@@ -2,13 +2,15 @@
 use Rattle.std.specs.Prelude.{◌≡◌, ◌==◌, ◌⊎◌, ℕ, List, [], ◌∷◌, ◌++◌, if◌then◌else◌, codes}
 use Rattle.runs.specs.declared.Turn.{Turn}
 use Rattle.sl_top.specs.declared.outcome.Outcome.{Outcome}
-use Rattle.sl_top.specs.declared.outcome.Outcome.TheVariants.{Printed, NotBuilt, ShelfFault, OutFault, Usage, Memory, Missing, Long}
+use Rattle.sl_top.specs.declared.outcome.Outcome.TheVariants.{Printed, NotBuilt, Refused, ShelfFault, OutFault, Usage, Memory, Missing, Long}
+use Rattle.sl_top.specs.Refusals.{refusal_line}
 use Rattle.sl_top.specs.Outside.{SinkSeen, IsWritten, IsBroken, IsCut}
 
 -- the status of an outcome
 abbrev pub status_of : Outcome → ℕ
 status_of Printed = 0
 status_of NotBuilt = 4
+status_of (Refused r) = 4
 status_of ShelfFault = 5
 status_of OutFault = 5
 status_of Usage = 6
@@ -20,6 +22,7 @@ status_of Long = 8
 abbrev pub line_of : Outcome → List ℕ → List ℕ
 line_of Printed name = []
 line_of NotBuilt name = name ++ (codes ": not built" ++ 10 ∷ [])
+line_of (Refused r) name = refusal_line name r
 line_of ShelfFault name = codes "fault: " ++ (name ++ 10 ∷ [])
 line_of OutFault name = []
 line_of Usage name = codes "usage: scalazy COMMAND FILE [OPTIONS]" ++ 10 ∷ []
@@ -31,6 +34,7 @@ line_of Long name = codes "long: " ++ (name ++ 10 ∷ [])
 abbrev pub HasLine : Outcome → Type 0
 HasLine Printed = ⊥
 HasLine NotBuilt = Unit {0}
+HasLine (Refused r) = Unit {0}
 HasLine ShelfFault = Unit {0}
 HasLine OutFault = ⊥
 HasLine Usage = Unit {0}

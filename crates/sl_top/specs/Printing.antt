@@ -1,9 +1,9 @@
 -- What the words ask to have printed: its text, and the steps that it takes.
-use Rattle.std.specs.Prelude.{◌≡◌, ℕ, ℤ, ◌≤◌, List, [], ◌∷◌, length, map, encode_utf8_all, Bool, IsTrue, Some}
+use Rattle.std.specs.Prelude.{◌≡◌, ℕ, ℤ, List, [], ◌∷◌, map, Bool}
 use Rattle.runs.specs.declared.Turn.{Turn}
 use Rattle.sl_io.specs.Files.{Files}
-use Rattle.sl_top.specs.declared.source_file.TheConstants.{SOURCE_LIMIT}
 use Rattle.sl_top.specs.declared.chain.Chain.{Chain}
+use Rattle.sl_top.specs.Fetched.{IsSource}
 use Rattle.sl_top.specs.Listing.{IsListing}
 use Rattle.sl_top.specs.Trace.{printed_line, trace_text}
 use Rattle.sl_top.specs.Value.{Values, steps_of}
@@ -20,11 +20,6 @@ pub record Prints (bytes text : List ℕ) (steps : ℕ) : Type 0 where
 -- the bytes are no listing
 abbrev pub IsNotBuilt : List ℕ → Type 0
 IsNotBuilt bytes = (chains : List Chain) → IsListing bytes chains → ⊥
-
--- the bytes that the shelf gave for a name: those of its file, where the shelf tells its files
-pub record IsSource (tells : Bool) (file : Files) (name bytes : List ℕ) : Type 0 where
-  pub short : length bytes ≤ SOURCE_LIMIT
-  pub told : IsTrue tells → file (encode_utf8_all name) ≡ Some bytes
 
 -- the file of this name prints this text in this many steps
 pub record PrintsFile (tells : Bool) (file : Files) (name text : List ℕ) (steps : ℕ) : Type 0 where

@@ -1,31 +1,23 @@
 -- How a call of `run FILE` goes.
-use Rattle.std.specs.Prelude.{◌≡◌, ℕ, ◌<◌, ◌≤◌, List, [], length, encode_utf8_all, IsTrue, Option, None, Some, IsSomeAnd, ◌⊎◌}
+use Rattle.std.specs.Prelude.{◌≡◌, ℕ, ◌<◌, ◌≤◌, List, [], length, encode_utf8_all, IsTrue, Option, None, Some, ◌⊎◌}
 use Rattle.runs.specs.declared.Turn.{Turn}
-use Rattle.sl_io.specs.Counts.{Rose}
 use Rattle.sl_io.specs.Files.{SameFiles}
 use Rattle.sl_top.specs.declared.chain.Chain.{Chain}
 use Rattle.sl_top.specs.declared.outcome.Outcome.{Outcome}
-use Rattle.sl_top.specs.declared.outcome.Outcome.TheVariants.{Printed, NotBuilt, ShelfFault, OutFault, Usage, Memory, Missing, Long}
+use Rattle.sl_top.specs.declared.outcome.Outcome.TheVariants.{Printed, NotBuilt, OutFault, Memory}
 use Rattle.sl_top.specs.declared.finished.Finished.{Finished}
 use Rattle.sl_top.specs.declared.source_file.TheConstants.{SOURCE_LIMIT}
 use Rattle.sl_top.specs.Outcome.{Told, schedule_at, Yields}
 use Rattle.sl_top.specs.Listing.{IsListing}
 use Rattle.sl_top.specs.Outside.{ShelfSeen, SinkSeen, IsCalm, IsUntouched, IsWritten, IsBroken, IsCut}
-use Rattle.sl_top.specs.Printing.{IsSource, IsNotBuilt, PrintsFile, one_turn}
+use Rattle.sl_top.specs.Fetched.{IsSource, IsUnread}
+use Rattle.sl_top.specs.Printing.{IsNotBuilt, PrintsFile, one_turn}
 
--- why the file of a name isn't run; at each cause but a fault of the shelf no count of the shelf rose
+-- why the file of a name isn't run: it is no listing, or it wasn't had
 abbrev pub Cause : Outcome → ShelfSeen → List ℕ → Type 0
-Cause Missing shelf name = IsCalm shelf × (IsTrue shelf.tells → shelf.file (encode_utf8_all name) ≡ None)
-Cause Long shelf name =
-    IsCalm shelf
-    × (IsTrue shelf.tells → IsSomeAnd (shelf.file (encode_utf8_all name)) (λ bytes. SOURCE_LIMIT < length bytes))
-Cause ShelfFault shelf name = Rose (shelf.before (encode_utf8_all name)) (shelf.after (encode_utf8_all name))
 Cause NotBuilt shelf name =
     IsCalm shelf × ((bytes : List ℕ) × IsSource shelf.tells shelf.file name bytes × IsNotBuilt bytes)
-Cause Memory shelf name = IsCalm shelf
-Cause Printed shelf name = ⊥
-Cause OutFault shelf name = ⊥
-Cause Usage shelf name = ⊥
+Cause outcome shelf name = IsUnread outcome shelf name
 
 -- the file isn't run, for this cause, and nothing is printed
 pub record IsUnrun (outcome : Outcome) (name : List ℕ) (shelf : ShelfSeen) (out : SinkSeen) (schedule : List Turn) : Type 0 where
@@ -33,16 +25,12 @@ pub record IsUnrun (outcome : Outcome) (name : List ℕ) (shelf : ShelfSeen) (ou
   pub quiet : IsUntouched out
   pub none : schedule ≡ []
 
--- what becomes of the text of a run that is over
+-- what becomes of the text of a run that is over; no other outcome comes then
 abbrev pub EndsPrinting : Outcome → SinkSeen → List ℕ → Type 0
 EndsPrinting Printed out text = IsWritten out text
 EndsPrinting OutFault out text = IsBroken out text
 EndsPrinting Memory out text = IsCut out text
-EndsPrinting NotBuilt out text = ⊥
-EndsPrinting ShelfFault out text = ⊥
-EndsPrinting Usage out text = ⊥
-EndsPrinting Missing out text = ⊥
-EndsPrinting Long out text = ⊥
+EndsPrinting outcome out text = ⊥
 
 -- the file is run, its text goes to `out`, and the schedule is that of the run
 pub record IsRun (outcome : Outcome) (name : List ℕ) (shelf : ShelfSeen) (out : SinkSeen) (schedule : List Turn) : Type 0 where

@@ -3,12 +3,15 @@
 
 ghost use Rattle.std.specs.Prelude.{ℕ, List};
 ghost use Rattle.sl_top.specs.Outside.{shelf_over, sink_over};
-ghost use Rattle.sl_top.specs.Request.{AsksToRun, AsksNothing};
+ghost use Rattle.sl_top.specs.Request.{AsksToCheck, AsksToRun, AsksNothing};
+ghost use Rattle.sl_top.specs.Check.{Checks};
 ghost use Rattle.sl_top.specs.Run.{Runs};
 ghost use Rattle.sl_top.specs.Usage.{IsUsage};
 
 mod chain;
+mod checking;
 mod code;
+mod commands;
 mod compiling;
 mod file_run;
 mod finished;
@@ -19,12 +22,14 @@ mod operands;
 mod operator;
 mod outcome;
 mod reading;
+mod refusals;
 mod request;
 mod running;
 mod source_file;
 mod trace;
 
-use file_run::{Scheduled, run_file};
+use commands::carry_out;
+use file_run::Scheduled;
 pub use finished::Finished;
 use finished::told;
 use outcome::Outcome;
@@ -45,6 +50,10 @@ pub fn top<F: Shelf, O: Sink, E: Sink>(
     out: &mut O,
     err: &mut E,
 ) -> Finished
+    ensures check { (name : List ℕ) → AsksToCheck words.now name → Checks name
+        (shelf_over F.tells F.file F.faults shelf.old shelf.new)
+        (sink_over O.contents O.faults out.old out.new)
+        (sink_over E.contents E.faults err.old err.new) result }
     ensures run { (name : List ℕ) → AsksToRun words.now name → Runs name
         (shelf_over F.tells F.file F.faults shelf.old shelf.new)
         (sink_over O.contents O.faults out.old out.new)
@@ -57,13 +66,6 @@ pub fn top<F: Shelf, O: Sink, E: Sink>(
     match request_of(alloc, words) {
         Err(NoMemory) => told(alloc, err, "", Scheduled::unrun(alloc, Outcome::Memory)),
         Ok(None) => told(alloc, err, "", Scheduled::unrun(alloc, Outcome::Usage)),
-        Ok(Some(request)) => {
-            let Request::Run {
-                file,
-                options: _options,
-            } = request;
-            let scheduled = run_file(alloc, &file, shelf, out);
-            told(alloc, err, file.as_str(), scheduled)
-        }
+        Ok(Some(request)) => carry_out(alloc, request, shelf, out, err),
     }
 }

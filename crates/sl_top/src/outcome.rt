@@ -4,13 +4,16 @@ ghost use Rattle.sl_io.specs.Gains.{Gains, GainsFront};
 ghost use Rattle.sl_io.specs.SinkFault.{OnSinkFailed, OnSinkMemory};
 ghost use Rattle.sl_top.specs.Outcome.{status_of, line_of, HasLine};
 
+use crate::refusals::write_refusal;
 use sl_io::{Sink, SinkFault, write_all};
+use sl_source::Refusal;
 
 /// How a call comes out, before its line on `err` is written.
 #[derive(Clone, Copy, Debug, PartialEq, Eq)]
 pub enum Outcome {
     Printed,
     NotBuilt,
+    Refused(Refusal),
     ShelfFault,
     OutFault,
     Usage,
@@ -26,7 +29,7 @@ impl Outcome {
     {
         match self {
             Outcome::Printed => 0,
-            Outcome::NotBuilt => 4,
+            Outcome::NotBuilt | Outcome::Refused(_) => 4,
             Outcome::ShelfFault | Outcome::OutFault => 5,
             Outcome::Usage => 6,
             Outcome::Memory => 7,
@@ -47,6 +50,7 @@ impl Outcome {
         match self {
             Outcome::Printed | Outcome::OutFault => Ok(()),
             Outcome::NotBuilt => write_parts(err, b"", name.as_bytes(), b": not built\n"),
+            Outcome::Refused(refusal) => write_refusal(err, name.as_bytes(), refusal),
             Outcome::ShelfFault => write_parts(err, b"fault: ", name.as_bytes(), b"\n"),
             Outcome::Usage => write_all(err, b"usage: scalazy COMMAND FILE [OPTIONS]\n"),
             Outcome::Memory => write_all(err, b"memory\n"),
@@ -56,8 +60,8 @@ impl Outcome {
     }
 }
 
-// Writes three pieces, one after another.
-fn write_parts<E: Sink>(
+/// Writes three pieces, one after another.
+pub fn write_parts<E: Sink>(
     err: &mut E,
     before: &[u8],
     name: &[u8],

@@ -23,6 +23,9 @@ pub struct Options {
 /// What a list of words asks for.
 #[derive(Debug, Drop)]
 pub enum Request {
+    /// Whether the file is a program.
+    Check { file: Name },
+    /// The file is to be run.
     Run { file: Name, options: Options },
 }
 
@@ -31,12 +34,27 @@ pub fn request_of(alloc: Global, words: &[Name]) -> Result<Option<Request>, NoMe
     ensures { IfOk result (λ found. MatchOption found (AsksNothing words.now) (AsksFor words.now)) }
 {
     match words {
-        [command, file] if command.as_str() == "run" => Ok(Some(Request::Run {
-            file: file.copy(alloc)?,
-            options: default_options(),
-        })),
+        [command, file] => file_request(alloc, command, file),
         _ => Ok(None),
     }
+}
+
+// The request of a command and a file.
+fn file_request(alloc: Global, command: &Name, file: &Name) -> Result<Option<Request>, NoMemory>
+    ensures { IfOk result (λ found. MatchOption found (AsksNothing (command.now ∷ file.now ∷ [])) (AsksFor (command.now ∷ file.now ∷ []))) }
+{
+    if command.as_str() == "check" {
+        return Ok(Some(Request::Check {
+            file: file.copy(alloc)?,
+        }));
+    }
+    if command.as_str() == "run" {
+        return Ok(Some(Request::Run {
+            file: file.copy(alloc)?,
+            options: default_options(),
+        }));
+    }
+    Ok(None)
 }
 
 // The options of a plain run.

@@ -1,8 +1,7 @@
 ghost use Rattle.std.specs.Prelude.{◌≡◌, IfOk, IfErr, OnOk};
 ghost use Rattle.sl_io.specs.Files.{SameFiles};
 ghost use Rattle.sl_top.specs.Outside.{shelf_over, IsCalm};
-ghost use Rattle.sl_top.specs.Printing.{IsSource};
-ghost use Rattle.sl_top.specs.Run.{Cause};
+ghost use Rattle.sl_top.specs.Fetched.{IsSource, IsUnread};
 
 use crate::outcome::Outcome;
 use sl_io::{Fetch, Shelf};
@@ -20,7 +19,7 @@ pub fn source<F: Shelf>(alloc: Global, name: &Name, shelf: &mut F) -> Result<Ite
     ensures calm { OnOk result (IsCalm (shelf_over F.tells F.file F.faults shelf.old shelf.new)) }
     ensures given { IfOk result (λ bytes. IsSource (F.tells shelf.old) (F.file shelf.old) name.now bytes) }
     ensures cause { IfErr result (λ outcome.
-        Cause outcome (shelf_over F.tells F.file F.faults shelf.old shelf.new) name.now) }
+        IsUnread outcome (shelf_over F.tells F.file F.faults shelf.old shelf.new) name.now) }
 {
     match shelf.fetch(alloc, name.as_str(), SOURCE_LIMIT) {
         Fetch::Bytes(bytes) => Ok(bytes),

@@ -7,7 +7,7 @@ use std::test::Fail;
 // Calls over a shelf that has `m.scala` alone. A row has the words and the body of `main`; the call of the shelf that fails
 // and the one that finds no memory, where they aren't 0; the most bytes that `out` takes at a call, and the same two calls;
 // these of `err`; then the status, what stands on `out` and on `err`, and the steps of the schedule. `$` stands for LF.
-// First listings, then files of other forms, and then streams and shelves that refuse.
+// First listings, then files of other forms, then files that are checked, and then streams and shelves that refuse.
 const CALLS: &str = "run m.scala||0 0|99 0 0|99 0 0|0|||1
 run m.scala|println(0)$|0 0|99 0 0|99 0 0|0|0$||3
 run m.scala|println(2147483647 + 1)$|0 0|99 0 0|99 0 0|0|-2147483648$||5
@@ -36,6 +36,22 @@ run m.scala|println(1 + )$|0 0|99 0 0|99 0 0|4||m.scala: not built$|0
 run m.scala|println(1 / 2)$|0 0|99 0 0|99 0 0|4||m.scala: not built$|0
 run m.scala|println((1))$|0 0|99 0 0|99 0 0|4||m.scala: not built$|0
 run m.scala|}$}$|0 0|99 0 0|99 0 0|4||m.scala: not built$|0
+check m.scala||0 0|99 0 0|99 0 0|4||m.scala: not built$|0
+check m.scala|val a=\"x\";println(1 /2)$|0 0|99 0 0|99 0 0|4||m.scala: not built$|0
+check m.scala|println(1 +)$|0 0|99 0 0|99 0 0|4||m.scala:3:12: parse Unexpected$|0
+check m.scala|val$|0 0|99 0 0|99 0 0|4||m.scala:4:1: parse Unexpected$|0
+check m.scala|}$}$|0 0|99 0 0|99 0 0|4||m.scala:5:1: parse Unexpected$|0
+check m.scala|println('a')$|0 0|99 0 0|99 0 0|4||m.scala:3:9: lex BadChar$|0
+check m.scala|$ val a = \"x$|0 0|99 0 0|99 0 0|4||m.scala:4:10: lex OpenText$|0
+check m.scala|/* a /* b */$|0 0|99 0 0|99 0 0|4||m.scala:3:1: lex OpenComment$|0
+check m.scala|f(\"a\\qb\")$|0 0|99 0 0|99 0 0|4||m.scala:3:3: lex BadEscape$|0
+check m.scala|val ; 0123$|0 0|99 0 0|99 0 0|4||m.scala:3:7: lex Number$|0
+check m.scala|println(1)$|1 0|9 0 0|99 0 0|5||fault: m.scala$|0
+check m.scala|println(1 +)$|0 0|9 1 1|1 14 0|5||m.scala:3:12:|0
+check m.scala|println(1)$|0 1|9 0 0|99 0 0|7||memory$|0
+check m.scala|println(1 +)$|0 0|9 0 0|1 0 15|7||m.scala:3:12: |0
+check n.scala|println(1)$|0 0|9 0 0|99 0 0|8||missing: n.scala$|0
+check|println(1)$|0 0|9 0 0|99 0 0|6||usage: scalazy COMMAND FILE [OPTIONS]$|0
 run m.scala|println(1)$println(2)$|0 0|9 0 0|99 0 0|0|1$2$||5
 run m.scala|println(1)$println(2)$|0 0|1 0 0|99 0 0|0|1$2$||5
 run m.scala|println(1)$println(2)$|0 0|9 1 0|99 0 0|5|||5

@@ -25,6 +25,21 @@ fn stuck_refusal(alloc: Global) -> Result<u8, AllocError> {
     Ok(finished.status)
 }
 
+// What is told of these bytes, checked as the file `m.scala`, and the status.
+fn checked(alloc: Global, bytes: &[u8], line: &str) -> Result<bool, AllocError> {
+    let words = words_of(alloc, &["check", "m.scala"])?;
+    let mut files = Vec::new(alloc);
+    files.push((
+        Name::from_text(alloc, "m.scala")?,
+        Vec::from_slice(alloc, bytes)?,
+    ))?;
+    let mut shelf = MemShelf::new(files, Vec::new(alloc));
+    let mut out = sink(alloc, WHOLE)?;
+    let mut err = sink(alloc, WHOLE)?;
+    let finished = top(alloc, words.as_slice(), &mut shelf, &mut out, &mut err);
+    Ok(finished.status == 4 && out.inner.bytes().is_empty() && err.inner.bytes() == line.as_bytes())
+}
+
 // The status of a run of a file of this length.
 fn long_run(alloc: Global, length: usize) -> Result<u8, AllocError> {
     let words = words_of(alloc, &["run", "m.scala"])?;
@@ -44,6 +59,33 @@ fn long_run(alloc: Global, length: usize) -> Result<u8, AllocError> {
 fn streams_may_take_nothing(rt: HostRuntime) -> Result<(), Fail> {
     assert_eq!(rt; stuck_run(rt.alloc())?, (5, 1, 0));
     assert_eq!(rt; stuck_refusal(rt.alloc())?, 5);
+    Ok(())
+}
+
+#[test]
+fn first_faults_are_told(rt: HostRuntime) -> Result<(), Fail> {
+    for (bytes, line) in [
+        (b"\xff".as_slice(), "m.scala: byte 0: not UTF-8\n"),
+        (b"// \xe2\x82".as_slice(), "m.scala: byte 3: not UTF-8\n"),
+        (
+            b"// \xe2\x82\xac \xc0\x80\n'".as_slice(),
+            "m.scala: byte 7: not UTF-8\n",
+        ),
+        (
+            b"/* \xe2\x82\xac */ '".as_slice(),
+            "m.scala:1:9: lex BadChar\n",
+        ),
+        (
+            b"object Main { def main(): Unit = println(1 +) }".as_slice(),
+            "m.scala:1:45: parse Unexpected\n",
+        ),
+        (
+            b"object Main { def main(): Unit = { val } }".as_slice(),
+            "m.scala:1:40: parse Unexpected\n",
+        ),
+    ] {
+        assert!(rt; checked(rt.alloc(), bytes, line)?, "{line}");
+    }
     Ok(())
 }
 

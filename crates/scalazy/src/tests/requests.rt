@@ -3,8 +3,8 @@ use sl_top::{Options, Request, request_of};
 use std::alloc::Global;
 use std::test::Fail;
 
-// Lists of words, and the file that each asks to run, if it asks for anything.
-const WORDS: [(&[&str], Option<&str>); 44] = [
+// Lists of words, and the file for which each asks its first word, if it asks for anything.
+const WORDS: [(&[&str], Option<&str>); 50] = [
     (&["run", "m.scala"], Some("m.scala")),
     (&["run", "a folder/m.scala"], Some("a folder/m.scala")),
     (&["run", ""], Some("")),
@@ -18,6 +18,10 @@ const WORDS: [(&[&str], Option<&str>); 44] = [
     (&["run", "größe.scala"], Some("größe.scala")),
     (&["run", "😀"], Some("😀")),
     (&["run", "a\nb"], Some("a\nb")),
+    (&["check", "m.scala"], Some("m.scala")),
+    (&["check", ""], Some("")),
+    (&["check", "run"], Some("run")),
+    (&["check", "--trace"], Some("--trace")),
     (&[], None),
     (&[""], None),
     (&["run"], None),
@@ -39,7 +43,9 @@ const WORDS: [(&[&str], Option<&str>); 44] = [
     (&["run", "m.scala", "--quantum", "50"], None),
     (&["run", "m.scala", "--turns", "t"], None),
     (&["run", "m.scala", "--record", "r"], None),
-    (&["check", "m.scala"], None),
+    (&["check"], None),
+    (&["Check", "m.scala"], None),
+    (&["check", "m.scala", "n.scala"], None),
     (&["compile", "m.scala", "out/"], None),
     (&["mean", "m.scala"], None),
     (&["exec", "Main.class"], None),
@@ -51,27 +57,38 @@ const WORDS: [(&[&str], Option<&str>); 44] = [
     (&["--help"], None),
 ];
 
-// The file of a request, where its options are those of a plain run.
-fn plain_run(request: &Request) -> Option<&str> {
-    let Request::Run { file, options } = request;
-    match options {
+// Whether the options are those of a plain run.
+fn are_plain(options: &Options) -> bool {
+    matches!(
+        options,
         Options {
             budget: 10_000_000,
             quantum: 50,
             turns: None,
             save: None,
             trace: false,
-        } => Some(file.as_str()),
-        _ => None,
+        }
+    )
+}
+
+// Whether a request is this command, and of this file.
+fn is_asked(request: &Request, command: &str, wanted: &str) -> bool {
+    match request {
+        Request::Check { file } => command == "check" && file.as_str() == wanted,
+        Request::Run { file, options } => {
+            command == "run" && file.as_str() == wanted && are_plain(options)
+        }
     }
 }
 
-// Whether these words ask to run this file, or for nothing.
+// Whether these words ask for this file, or for nothing.
 fn asks_for(alloc: Global, words: &[&str], file: Option<&str>) -> Result<bool, Fail> {
-    let words = words_of(alloc, words)?;
-    Ok(match request_of(alloc, words.as_slice())? {
-        Some(request) => plain_run(&request) == file,
-        None => file.is_none(),
+    let names = words_of(alloc, words)?;
+    let request = request_of(alloc, names.as_slice())?;
+    Ok(match (request, words, file) {
+        (Some(request), [command, ..], Some(file)) => is_asked(&request, command, file),
+        (None, _, None) => true,
+        _ => false,
     })
 }
 

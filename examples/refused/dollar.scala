@@ -1,0 +1,6 @@
+object Main {
+  def main(): Unit = {
+    val a$b = 1
+    println(a$b)
+  }
+}

@@ -1,0 +1,5 @@
+object Main {
+  def main(): Unit = {
+    val aaaaaaaaaaaaaaaaaaaaaaaaaaaaaaaaaaaaaaaaaaaaaaaaaaaaaaaaaaaaaaaaaaaaaaaaaaaaaaaaa = 1
+  }
+}

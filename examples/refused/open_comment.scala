@@ -1,0 +1,6 @@
+object Main {
+  def main(): Unit = {
+    /* a /* b */
+    println(1)
+  }
+}
