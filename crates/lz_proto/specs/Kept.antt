@@ -14,6 +14,7 @@ pub data Stage : Type 0 where
   Going : (who : ℕ) → Stage
   Over : Stage
 
+-- whether nobody runs the initialiser any more
 abbrev pub is_over : Stage → Bool
 is_over Over = true
 is_over other = false

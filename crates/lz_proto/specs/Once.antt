@@ -29,6 +29,7 @@ first_inside c (pos ∷ at) = if is_inside c pos then 0 else suc (first_inside c
 abbrev pub runner : Protocol → ℕ → ℕ
 runner p c = first_inside c p.at
 
+-- the state of a cell as that of a once-cell: while its value is worked out or awaited, its runner is running
 abbrev pub once_of : Protocol → ℕ → State → Once
 once_of p c state.Empty = once.Empty
 once_of p c (state.Evaluating t) = once.Running (runner p c)

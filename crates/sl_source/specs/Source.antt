@@ -27,6 +27,7 @@ pub record AreTokens (text : List ℕ) (tokens : List Token) : Type 0 where
 abbrev pub IsTree : List Token → file.Unit → Type 0
 IsTree tokens tree = Some tree ≡ tree_of (rules_.unit nesting ([], tokens))
 
+-- the rules of files stop in the tokens with this fault
 abbrev pub IsParseFault : List Token → ParseFault → Type 0
 IsParseFault tokens fault = Some fault ≡ fault_of tokens (rules_.unit nesting ([], tokens))
 
@@ -58,6 +59,7 @@ abbrev pub IsTextCause : List ℕ → SourceFault → Type 0
 IsTextCause text (source.Refused r) = FirstInText text r
 IsTextCause text source.Memory = Unit {0}
 
+-- why bytes have no tree: their first fault, or want of memory
 abbrev pub IsCause : List ℕ → SourceFault → Type 0
 IsCause bytes (source.Refused r) = FirstFault bytes r
 IsCause bytes source.Memory = Unit {0}

@@ -8,7 +8,7 @@ use Rattle.sl_parse_tmpl.specs.declared.fault.ParseKind.TheVariants as syntactic
 use Rattle.sl_source.specs.declared.refusal.Refusal.{Refusal}
 use Rattle.sl_source.specs.declared.refusal.Refusal.TheVariants.{NotUtf8, Lex, Parse}
 
--- the word of a kind; want of memory is no fault of a text and has none
+-- the word of a lexical kind; want of memory is no fault of a text and has none
 abbrev pub lex_word : LexKind → List ℕ
 lex_word lexical.BadChar = codes "BadChar"
 lex_word lexical.OpenText = codes "OpenText"
@@ -20,15 +20,17 @@ lex_word lexical.TooMany = codes "TooMany"
 lex_word lexical.LongText = codes "LongText"
 lex_word lexical.Memory = []
 
+-- the word of a kind of fault of the grammar; want of memory has none
 abbrev pub parse_word : ParseKind → List ℕ
 parse_word syntactic.Unexpected = codes "Unexpected"
 parse_word syntactic.TooDeep = codes "TooDeep"
 parse_word syntactic.Memory = []
 
--- `NAME:LINE`, and `:COLUMN` with what follows it
+-- `NAME:LINE`
 abbrev pub in_line : List ℕ → ℕ → List ℕ
 in_line name line = name ++ (codes ":" ++ decimal line)
 
+-- `:COLUMN`, and what follows it
 abbrev pub in_column : ℕ → List ℕ → List ℕ
 in_column column more = codes ":" ++ (decimal column ++ more)
 
@@ -40,6 +42,7 @@ placed_line name spot phase word = in_line name spot.line ++ (in_column spot.col
 abbrev pub byte_line : List ℕ → ℕ → List ℕ
 byte_line name at = (name ++ (codes ": byte " ++ decimal at)) ++ (codes ": not UTF-8" ++ 10 ∷ [])
 
+-- the line of a first fault, behind the name of its file
 abbrev pub refusal_line : List ℕ → Refusal → List ℕ
 refusal_line name (NotUtf8 at) = byte_line name at
 refusal_line name (Lex fault spot) = placed_line name spot (codes ": lex ") (lex_word fault.kind)
