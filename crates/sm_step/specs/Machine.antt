@@ -12,6 +12,7 @@ abbrev pub contexts_of : Option Context → List Context → List Context
 contexts_of None below = []
 contexts_of (Some c) below = c ∷ below
 
+-- a lane as a thread of the system
 abbrev pub thread_of : Lane → Thread
 thread_of l = record { contexts = contexts_of l.inner l.below; value = l.value; thrown = l.thrown }
 
@@ -20,9 +21,11 @@ abbrev pub thread_or_ended : Option Lane → Thread
 thread_or_ended None = begun_thread None
 thread_or_ended (Some l) = thread_of l
 
+-- the threads by their numbers; number 0 is none
 abbrev pub numbered : List Lane → ℕ → Thread
 numbered lanes zero = begun_thread None
 numbered lanes (suc t) = thread_or_ended (slice_get lanes t)
 
+-- what threads share, and the threads, as a state of the system
 abbrev pub state_of : Heap → List Lane → HeapState Heap Thread
 state_of h lanes = record { heap = h; count = length lanes; threads = numbered lanes }
