@@ -184,3 +184,11 @@ astray_here raws now starts n d h lt others s so_far =
 
 pub settled_all : (raws now : List Instr) (n : ℕ) → n ≡ length raws → length now ≡ length raws → AreSettled raws n (take n now) → AreSettled raws (length raws) now
 settled_all raws now n e many h = subst (λ (l : List Instr). AreSettled raws (length raws) l) (take_all (length raws) now (omega arith)) (subst (λ (k : ℕ). AreSettled raws k (take k now)) e h)
+
+-- an instruction that is no jump is settled as it is
+pub plain_here : (raws : List Instr) (starts : List ℕ) (n : ℕ) (d : Instr) → AreStarts raws starts → n < length raws → jumps_by (shape_of (get_or raws n d).op) ≡ false
+    → AreSettled raws n (take n raws) → AreSettled raws (n + 1) (take (n + 1) raws)
+plain_here raws starts n d h lt plain so_far =
+    let raw = get_or raws n d in
+    subst (AreSettled raws (n + 1)) (sym (take_more raws n d lt))
+    (settled_more raws starts n raw raw (take n raws) h (slice_get-get_or raws n d lt) lt (settles_plain starts (offset raws n) raw plain) so_far)

@@ -1,4 +1,4 @@
--- What a reader must believe.
+-- What a reader must believe: which fault bytes have that are no code, and where the instructions of a code begin.
 pub mod Faults
 pub mod Offsets
 -- For proofs only.

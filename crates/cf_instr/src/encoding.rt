@@ -1,48 +1,22 @@
 //! A method's code to bytes.
 
-ghost use Rattle.std.specs.Prelude.{◌≡◌, ◌≤◌, ◌++◌, length, IfOk, OnOk, OnErr};
+ghost use Rattle.std.specs.Prelude.{◌≡◌, ◌≤◌, length, IfOk};
 ghost use Rattle.cf_form.specs.Instructions.{IsCode, code_bytes, offset};
 ghost use Rattle.cf_instr.specs.Offsets.{AreOffsets};
 ghost use Rattle.cf_instr.specs.Raws.{AreLow, HasTarget, offset_from};
 
 use crate::NoMemory;
 use crate::settling::is_jump;
-use crate::starts::offsets;
 use crate::writing::put;
 use cf_form::Instr;
 use std::alloc::Global;
 
-/// The bytes of a code (JVMS 4.7.3), its targets' numbers as offsets. It is short enough that each of its offsets is one of
-/// two bytes.
-pub fn encode(alloc: Global, instrs: &[Instr]) -> Result<Vec<u8>, NoMemory>
-    requires code { IsCode instrs.now }
-    requires short { offset instrs.now (length instrs.now) ≤ 65535 }
-    ensures { IfOk result (λ bytes. bytes.items ≡ code_bytes instrs.now) }
-{
-    let offsets = offsets(alloc, instrs)?;
-    encode_at(alloc, instrs, &offsets)
-}
-
-/// Appends the bytes of a code (JVMS 4.7.3), whose offsets are these, or nothing where memory runs out.
-pub fn encode_onto(
+// The bytes of a code whose offsets are these.
+pub(crate) fn encode_at(
     alloc: Global,
-    out: &mut Vec<u8>,
     instrs: &[Instr],
     offsets: &[u32],
-) -> Result<(), NoMemory>
-    requires code { IsCode instrs.now }
-    requires short { offset instrs.now (length instrs.now) ≤ 65535 }
-    requires offsets { AreOffsets instrs.now offsets.now }
-    ensures ok { OnOk result (out.new.items ≡ out.old.items ++ code_bytes instrs.now) }
-    ensures err { OnErr result (out.new.items ≡ out.old.items) }
-{
-    let bytes = encode_at(alloc, instrs, offsets)?;
-    out.extend_from_slice(&bytes)?;
-    Ok(())
-}
-
-// The bytes of a code whose offsets are these.
-fn encode_at(alloc: Global, instrs: &[Instr], offsets: &[u32]) -> Result<Vec<u8>, NoMemory>
+) -> Result<Vec<u8>, NoMemory>
     requires code { IsCode instrs.now }
     requires short { offset instrs.now (length instrs.now) ≤ 65535 }
     requires offsets { AreOffsets instrs.now offsets.now }

@@ -1,6 +1,6 @@
 //! The targets of jumps, from bytes to numbers of instructions.
 
-ghost use Rattle.std.specs.Prelude.{◌≡◌, ◌≢◌, ◌<◌, ◌≤◌, ◌^◌, ℕ, length, slice_index, MatchOption, MatchResult, true};
+ghost use Rattle.std.specs.Prelude.{◌≡◌, ◌≢◌, ◌<◌, ◌≤◌, ◌^◌, ℕ, length, slice_index, MatchOption, MatchResult, IsTrue, true};
 ghost use Rattle.cf_form.specs.Opcodes.{shape_of};
 ghost use Rattle.cf_form.specs.Instructions.{jumps_by};
 ghost use Rattle.cf_instr.specs.Offsets.{IsNotFalling};
@@ -14,6 +14,21 @@ pub fn is_jump(op: u8) -> bool
     ensures { result ≡ jumps_by (shape_of op) }
 {
     matches!(shape_of(op), Some(Shape::Jump2 | Shape::Jump4))
+}
+
+/// Whether none of these instructions, which begin there, is a jump, so that nothing is to be settled. Where they begin is
+/// for the contract alone.
+#[inline(never)]
+pub fn is_settled(raws: &[Instr], starts: &[u32]) -> bool
+    requires { AreStarts raws.now starts.now }
+    ensures { IsTrue result → AreSettled raws.now (length raws.now) raws.now }
+{
+    for raw in raws {
+        if is_jump(raw.op) {
+            return false;
+        }
+    }
+    true
 }
 
 /// Puts the numbers of targets in place of the offsets of these instructions, which begin there. The fault is the byte of

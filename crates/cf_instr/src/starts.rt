@@ -10,7 +10,7 @@ use cf_form::{Instr, Shape, shape_of};
 use std::alloc::Global;
 
 /// How many bytes the instruction takes (JVMS 6.5).
-pub fn byte_count(instr: &Instr) -> u32
+pub fn size(instr: &Instr) -> u32
     ensures { result ≡ size instr.now }
 {
     match shape_of(instr.op) {
@@ -33,7 +33,7 @@ pub fn code_len(instrs: &[Instr]) -> u32
 {
     let mut len = 0;
     for instr in instrs {
-        len += byte_count(instr);
+        len += size(instr);
     }
     len
 }
@@ -48,7 +48,7 @@ pub fn offsets(alloc: Global, instrs: &[Instr]) -> Result<Vec<u32>, NoMemory>
     let mut at = 0;
     offsets.push(at)?;
     for instr in instrs {
-        at += byte_count(instr);
+        at += size(instr);
         offsets.push(at)?;
     }
     Ok(offsets)

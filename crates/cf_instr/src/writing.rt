@@ -56,6 +56,7 @@ fn put_operands(out: &mut Vec<u8>, shape: Shape, wide: bool, a: i32, b: i32) -> 
     }
 }
 
+// Appends a number as one byte.
 fn put_byte(out: &mut Vec<u8>, x: i32) -> Result<(), NoMemory>
     requires { Is1 x }
     ensures { OnOk result (out.new.items ≡ out.old.items ++ one x) }
@@ -64,6 +65,7 @@ fn put_byte(out: &mut Vec<u8>, x: i32) -> Result<(), NoMemory>
     Ok(())
 }
 
+// Appends a signed number as one byte.
 fn put_signed_byte(out: &mut Vec<u8>, x: i32) -> Result<(), NoMemory>
     requires { FitsSigned w8 x }
     ensures { OnOk result (out.new.items ≡ out.old.items ++ one x) }
@@ -72,6 +74,7 @@ fn put_signed_byte(out: &mut Vec<u8>, x: i32) -> Result<(), NoMemory>
     Ok(())
 }
 
+// Appends a number as two bytes.
 fn put_short(out: &mut Vec<u8>, x: i32) -> Result<(), NoMemory>
     requires { Is2 x }
     ensures { OnOk result (out.new.items ≡ out.old.items ++ two x) }
@@ -80,6 +83,7 @@ fn put_short(out: &mut Vec<u8>, x: i32) -> Result<(), NoMemory>
     Ok(())
 }
 
+// Appends a signed number as two bytes.
 fn put_signed_short(out: &mut Vec<u8>, x: i32) -> Result<(), NoMemory>
     requires { FitsSigned w16 x }
     ensures { OnOk result (out.new.items ≡ out.old.items ++ two x) }
@@ -88,6 +92,7 @@ fn put_signed_short(out: &mut Vec<u8>, x: i32) -> Result<(), NoMemory>
     Ok(())
 }
 
+// Appends a signed number as four bytes.
 fn put_signed_int(out: &mut Vec<u8>, x: i32) -> Result<(), NoMemory>
     ensures { OnOk result (out.new.items ≡ out.old.items ++ four x) }
 {
@@ -95,6 +100,7 @@ fn put_signed_int(out: &mut Vec<u8>, x: i32) -> Result<(), NoMemory>
     Ok(())
 }
 
+// Appends a local and an amount, a byte each.
 fn put_step(out: &mut Vec<u8>, a: i32, b: i32) -> Result<(), NoMemory>
     requires { OperandsFit Shape.Step false a b }
     ensures { OnOk result (out.new.items ≡ out.old.items ++ operands Shape.Step false a b) }
@@ -103,6 +109,7 @@ fn put_step(out: &mut Vec<u8>, a: i32, b: i32) -> Result<(), NoMemory>
     put_signed_byte(out, b)
 }
 
+// Appends a local and an amount, two bytes each.
 fn put_wide_step(out: &mut Vec<u8>, a: i32, b: i32) -> Result<(), NoMemory>
     requires { OperandsFit Shape.Step true a b }
     ensures { OnOk result (out.new.items ≡ out.old.items ++ operands Shape.Step true a b) }
@@ -111,6 +118,7 @@ fn put_wide_step(out: &mut Vec<u8>, a: i32, b: i32) -> Result<(), NoMemory>
     put_signed_short(out, b)
 }
 
+// Appends an index of the constant pool, a count, and a zero byte.
 fn put_face(out: &mut Vec<u8>, a: i32, b: i32) -> Result<(), NoMemory>
     requires { OperandsFit Shape.Face false a b }
     ensures { OnOk result (out.new.items ≡ out.old.items ++ operands Shape.Face false a b) }

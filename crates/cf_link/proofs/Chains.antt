@@ -1,4 +1,4 @@
--- What stands at the places of the methods of a class of a chain.
+-- What stands at the slots of the methods of a class of a chain.
 use Rattle.std.proofs.Common.{◌≡◌, ◌∙◌, ℕ, zero, suc, List, [], ◌∷◌, ◌++◌, length, reverse, map, get_or, refl, sym, ap, subst, Option, Some, None, append-nil}
 use Rattle.std.specs.Prelude.{slice_get, option_map, option_and_then}
 use Rattle.std.specs.List.{flat_map}
@@ -9,9 +9,9 @@ use Rattle.std.proofs.lemmas.Option.{unwrap_or-slice_get}
 use Rattle.cf_link.specs.declared.linked_class.LinkedClass.{LinkedClass}
 use Rattle.cf_link.specs.Classes.{chain_of}
 use Rattle.cf_link.specs.Selection.{chosen_all}
-use Rattle.cf_link.specs.Layout.{places_by}
+use Rattle.cf_link.specs.Layout.{method_slots}
 use Rattle.cf_link.specs.Linked.{chain_above}
-use Rattle.cf_link.specs.Places.{at_place}
+use Rattle.cf_link.specs.TableSlots.{at_slot}
 
 -- each class of a list has the chain that it should have
 abbrev pub AllChain : List LinkedClass → Type 0
@@ -29,8 +29,8 @@ chain_cases classes all class (Some c) e = subst (ChainCases classes class) (sym
 pub chain_case : (classes : List LinkedClass) → AllChain classes → (class : ℕ) → ChainCases classes class (chain_of classes class)
 chain_case classes all class = chain_cases classes all class (slice_get classes class) refl
 
-pub at_place_is : (places : List (Option (ℕ × ℕ))) (i : ℕ) → at_place places i ≡ get_or places i None
-at_place_is places i = unwrap_or-slice_get places i None
+pub at_slot_is : (slots : List (Option (ℕ × ℕ))) (i : ℕ) → at_slot slots i ≡ get_or slots i None
+at_slot_is slots i = unwrap_or-slice_get slots i None
 
 pub at_map : {A : Type 0} (f : A → Option (ℕ × ℕ)) (xs : List A) (i : ℕ) → get_or (map f xs) i None ≡ option_and_then f (slice_get xs i)
 at_map f [] i = refl
@@ -41,6 +41,6 @@ pub length_all : {A B : Type 0} (f : A → B) (xs : List A) → length (map f xs
 length_all f [] = refl
 length_all f (x ∷ xs) = ap suc (length_all f xs)
 
-pub places_more : (classes : List LinkedClass) (class d : ℕ) (up : List ℕ) → places_by classes class (d ∷ up) ≡ places_by classes class up ++ chosen_all classes class d
-places_more classes class d up =
-    ap (flat_map (chosen_all classes class)) (reverse-append (d ∷ []) up) ∙ flat_map-append (chosen_all classes class) (reverse up) (d ∷ []) ∙ ap (λ xs. places_by classes class up ++ xs) (append-nil (chosen_all classes class d))
+pub method_slots_more : (classes : List LinkedClass) (class d : ℕ) (up : List ℕ) → method_slots classes class (d ∷ up) ≡ method_slots classes class up ++ chosen_all classes class d
+method_slots_more classes class d up =
+    ap (flat_map (chosen_all classes class)) (reverse-append (d ∷ []) up) ∙ flat_map-append (chosen_all classes class) (reverse up) (d ∷ []) ∙ ap (λ xs. method_slots classes class up ++ xs) (append-nil (chosen_all classes class d))

@@ -16,90 +16,90 @@ use Rattle.cf_link.specs.declared.reference.LinkedRef.{LinkedRef}
 use Rattle.cf_link.specs.declared.table.Table.{Table}
 use Rattle.cf_link.specs.Classes.{chain_of, line_of, methods_of, is_interface}
 use Rattle.cf_link.specs.Selection.{chosen, chosen_all, chosen_at}
-use Rattle.cf_link.specs.Layout.{places_by, table, face, interfaces_of, numbers}
+use Rattle.cf_link.specs.Layout.{method_slots, table, face, interfaces_of, numbers}
 use Rattle.cf_link.specs.Linked.{IsLinked, chain_above}
-use Rattle.cf_link.specs.Places.{at_place, base_of, places_of, faces_of, face_of}
-use Rattle.cf_link.proofs.Chains.{AllChain, ChainCases, none, more, chain_case, at_place_is, at_map, length_all, places_more}
+use Rattle.cf_link.specs.TableSlots.{at_slot, base_of, table_slots, faces_of, face_of}
+use Rattle.cf_link.proofs.Chains.{AllChain, ChainCases, none, more, chain_case, at_slot_is, at_map, length_all, method_slots_more}
 
--- how many places a chain has doesn't depend on who selects
-places_length : (classes : List LinkedClass) (one other : ℕ) (chain : List ℕ) → length (places_by classes one chain) ≡ length (places_by classes other chain)
-places_length classes one other [] = refl
-places_length classes one other (d ∷ up) =
-    ap length (places_more classes one d up)
-    ∙ length-append (places_by classes one up) (chosen_all classes one d)
-    ∙ ap (λ n. n + length (chosen_all classes one d)) (places_length classes one other up)
-    ∙ ap (λ n. length (places_by classes other up) + n) (length_all (chosen classes one) (methods_of classes d) ∙ sym (length_all (chosen classes other) (methods_of classes d)))
-    ∙ sym (length-append (places_by classes other up) (chosen_all classes other d))
-    ∙ sym (ap length (places_more classes other d up))
+-- how many slots a chain has doesn't depend on who selects
+method_slots_length : (classes : List LinkedClass) (one other : ℕ) (chain : List ℕ) → length (method_slots classes one chain) ≡ length (method_slots classes other chain)
+method_slots_length classes one other [] = refl
+method_slots_length classes one other (d ∷ up) =
+    ap length (method_slots_more classes one d up)
+    ∙ length-append (method_slots classes one up) (chosen_all classes one d)
+    ∙ ap (λ n. n + length (chosen_all classes one d)) (method_slots_length classes one other up)
+    ∙ ap (λ n. length (method_slots classes other up) + n) (length_all (chosen classes one) (methods_of classes d) ∙ sym (length_all (chosen classes other) (methods_of classes d)))
+    ∙ sym (length-append (method_slots classes other up) (chosen_all classes other d))
+    ∙ sym (ap length (method_slots_more classes other d up))
 
--- the places before those of the methods that a class declares
+-- the slots before those of the methods that a class declares
 abbrev base : List LinkedClass → ℕ → ℕ
-base classes of = length (places_by classes of (drop 1 (chain_of classes of)))
+base classes of = length (method_slots classes of (drop 1 (chain_of classes of)))
 
 -- at the class that begins the chain
 at_first : (classes : List LinkedClass) (class of number : ℕ) (up : List ℕ) → chain_of classes of ≡ of ∷ up → number < length (methods_of classes of)
-    → get_or (places_by classes class (of ∷ up)) (base classes of + number) None ≡ chosen_at classes class of number
+    → get_or (method_slots classes class (of ∷ up)) (base classes of + number) None ≡ chosen_at classes class of number
 at_first classes class of number up is within =
-    let begins : base classes of ≡ length (places_by classes class up) = ap (λ chain. length (places_by classes of (drop 1 chain))) is ∙ places_length classes of class up in
-    ap (λ n. get_or (places_by classes class (of ∷ up)) (n + number) None) begins
-    ∙ ap (λ places. get_or places (length (places_by classes class up) + number) None) (places_more classes class of up)
-    ∙ get_or-append-add (places_by classes class up) (chosen_all classes class of) number None
+    let begins : base classes of ≡ length (method_slots classes class up) = ap (λ chain. length (method_slots classes of (drop 1 chain))) is ∙ method_slots_length classes of class up in
+    ap (λ n. get_or (method_slots classes class (of ∷ up)) (n + number) None) begins
+    ∙ ap (λ slots. get_or slots (length (method_slots classes class up) + number) None) (method_slots_more classes class of up)
+    ∙ get_or-append-add (method_slots classes class up) (chosen_all classes class of) number None
     ∙ at_map (chosen classes class) (methods_of classes of) number
 
--- where the place of a method is
-abbrev IsPlaced : List LinkedClass → ℕ → ℕ → ℕ → List ℕ → Type 0
-IsPlaced classes class of number chain =
-    (base classes of + number < length (places_by classes class chain))
-    × (get_or (places_by classes class chain) (base classes of + number) None ≡ chosen_at classes class of number)
+-- where the slot of a method is
+abbrev HasSlot : List LinkedClass → ℕ → ℕ → ℕ → List ℕ → Type 0
+HasSlot classes class of number chain =
+    (base classes of + number < length (method_slots classes class chain))
+    × (get_or (method_slots classes class chain) (base classes of + number) None ≡ chosen_at classes class of number)
 
-placed_first : (classes : List LinkedClass) (class of number : ℕ) (up : List ℕ) → chain_of classes of ≡ of ∷ up → number < length (methods_of classes of)
-    → IsPlaced classes class of number (of ∷ up)
-placed_first classes class of number up is within =
-    let begins : base classes of ≡ length (places_by classes class up) = ap (λ chain. length (places_by classes of (drop 1 chain))) is ∙ places_length classes of class up in
-    let all : length (places_by classes class (of ∷ up)) ≡ length (places_by classes class up) + length (methods_of classes of) =
-    ap length (places_more classes class of up) ∙ length-append (places_by classes class up) (chosen_all classes class of)
-    ∙ ap (λ n. length (places_by classes class up) + n) (length_all (chosen classes class) (methods_of classes of)) in
+has_slot_first : (classes : List LinkedClass) (class of number : ℕ) (up : List ℕ) → chain_of classes of ≡ of ∷ up → number < length (methods_of classes of)
+    → HasSlot classes class of number (of ∷ up)
+has_slot_first classes class of number up is within =
+    let begins : base classes of ≡ length (method_slots classes class up) = ap (λ chain. length (method_slots classes of (drop 1 chain))) is ∙ method_slots_length classes of class up in
+    let all : length (method_slots classes class (of ∷ up)) ≡ length (method_slots classes class up) + length (methods_of classes of) =
+    ap length (method_slots_more classes class of up) ∙ length-append (method_slots classes class up) (chosen_all classes class of)
+    ∙ ap (λ n. length (method_slots classes class up) + n) (length_all (chosen classes class) (methods_of classes of)) in
     (omega arith, at_first classes class of number up is within)
 
-placed_later : (classes : List LinkedClass) (class of number d : ℕ) (up : List ℕ) → IsPlaced classes class of number up → IsPlaced classes class of number (d ∷ up)
-placed_later classes class of number d up placed =
-    let all : length (places_by classes class (d ∷ up)) ≡ length (places_by classes class up) + length (chosen_all classes class d) =
-    ap length (places_more classes class d up) ∙ length-append (places_by classes class up) (chosen_all classes class d) in
-    let before : base classes of + number < length (places_by classes class up) = placed.0 in (
+has_slot_later : (classes : List LinkedClass) (class of number d : ℕ) (up : List ℕ) → HasSlot classes class of number up → HasSlot classes class of number (d ∷ up)
+has_slot_later classes class of number d up has_slot =
+    let all : length (method_slots classes class (d ∷ up)) ≡ length (method_slots classes class up) + length (chosen_all classes class d) =
+    ap length (method_slots_more classes class d up) ∙ length-append (method_slots classes class up) (chosen_all classes class d) in
+    let before : base classes of + number < length (method_slots classes class up) = has_slot.0 in (
       omega arith,
-      ap (λ places. get_or places (base classes of + number) None) (places_more classes class d up)
-          ∙ get_or_append_left (places_by classes class up) (chosen_all classes class d) None (base classes of + number) before ∙ placed.1,
+      ap (λ slots. get_or slots (base classes of + number) None) (method_slots_more classes class d up)
+          ∙ get_or_append_left (method_slots classes class up) (chosen_all classes class d) None (base classes of + number) before ∙ has_slot.1,
     )
 
--- what is placed in the chains of superclasses is placed in the chain above
-placed_above : (classes : List LinkedClass) → (class of number : ℕ) (parent : Option ℕ) → is_in (chain_above classes parent) of ≡ true
-    → ((start : ℕ) → chain_of classes start ≡ chain_above classes parent → is_in (chain_above classes parent) of ≡ true → IsPlaced classes class of number (chain_above classes parent))
-    → IsPlaced classes class of number (chain_above classes parent)
-placed_above classes class of number None there further = absurd (cc there)
-placed_above classes class of number (Some parent) there further = further parent refl there
+-- what has a slot in the chains of superclasses has one in the chain above
+has_slot_above : (classes : List LinkedClass) → (class of number : ℕ) (parent : Option ℕ) → is_in (chain_above classes parent) of ≡ true
+    → ((start : ℕ) → chain_of classes start ≡ chain_above classes parent → is_in (chain_above classes parent) of ≡ true → HasSlot classes class of number (chain_above classes parent))
+    → HasSlot classes class of number (chain_above classes parent)
+has_slot_above classes class of number None there further = absurd (cc there)
+has_slot_above classes class of number (Some parent) there further = further parent refl there
 
-placed_from : (classes : List LinkedClass) → (class of number : ℕ) → number < length (methods_of classes of)
+has_slot_from : (classes : List LinkedClass) → (class of number : ℕ) → number < length (methods_of classes of)
     → (start : ℕ) (chain : List ℕ) → chain_of classes start ≡ chain → ChainCases classes start chain → is_in chain of ≡ true
-    → ((first : ℕ) (up : List ℕ) → chain ≡ first ∷ up → (next : ℕ) → chain_of classes next ≡ up → is_in up of ≡ true → IsPlaced classes class of number up)
-    → IsPlaced classes class of number chain
-placed_from classes class of number within start chain is none there further = absurd (cc there)
-placed_from classes class of number within start chain is (more c e) there further =
-    elim (or_cases (eqb of start) (is_in (chain_above classes c.parent) of) there) as (λ _. IsPlaced classes class of number (start ∷ chain_above classes c.parent)) [
+    → ((first : ℕ) (up : List ℕ) → chain ≡ first ∷ up → (next : ℕ) → chain_of classes next ≡ up → is_in up of ≡ true → HasSlot classes class of number up)
+    → HasSlot classes class of number chain
+has_slot_from classes class of number within start chain is none there further = absurd (cc there)
+has_slot_from classes class of number within start chain is (more c e) there further =
+    elim (or_cases (eqb of start) (is_in (chain_above classes c.parent) of) there) as (λ _. HasSlot classes class of number (start ∷ chain_above classes c.parent)) [
       | inl here ↦ let same : of ≡ start = eqb-true of start here in
-          subst (λ d. IsPlaced classes class of number (d ∷ chain_above classes c.parent)) same
-          (placed_first classes class of number (chain_above classes c.parent) (ap (chain_of classes) same ∙ is ∙ ap (λ d. d ∷ chain_above classes c.parent) (sym same)) within)
-      | inr higher ↦ placed_later classes class of number start (chain_above classes c.parent)
-          (placed_above classes class of number c.parent higher (further start (chain_above classes c.parent) refl))
+          subst (λ d. HasSlot classes class of number (d ∷ chain_above classes c.parent)) same
+          (has_slot_first classes class of number (chain_above classes c.parent) (ap (chain_of classes) same ∙ is ∙ ap (λ d. d ∷ chain_above classes c.parent) (sym same)) within)
+      | inr higher ↦ has_slot_later classes class of number start (chain_above classes c.parent)
+          (has_slot_above classes class of number c.parent higher (further start (chain_above classes c.parent) refl))
     ]
 
--- each method of a class of a chain has its place
-placed : (classes : List LinkedClass) → AllChain classes → (class of number : ℕ) → number < length (methods_of classes of)
-    → (chain : List ℕ) (start : ℕ) → chain_of classes start ≡ chain → is_in chain of ≡ true → IsPlaced classes class of number chain
-placed classes all class of number within [] start is there = absurd (cc there)
-placed classes all class of number within (first ∷ up) start is there =
-    placed_from classes class of number within start (first ∷ up) is (subst (ChainCases classes start) is (chain_case classes all start)) there
+-- each method of a class of a chain has its slot
+has_slot : (classes : List LinkedClass) → AllChain classes → (class of number : ℕ) → number < length (methods_of classes of)
+    → (chain : List ℕ) (start : ℕ) → chain_of classes start ≡ chain → is_in chain of ≡ true → HasSlot classes class of number chain
+has_slot classes all class of number within [] start is there = absurd (cc there)
+has_slot classes all class of number within (first ∷ up) start is there =
+    has_slot_from classes class of number within start (first ∷ up) is (subst (ChainCases classes start) is (chain_case classes all start)) there
     (λ one more same next to among. let behind : up ≡ more = cc in
-    subst (λ xs. IsPlaced classes class of number xs) behind (placed classes all class of number within up next (to ∙ sym behind) (subst (λ xs. is_in xs of ≡ true) (sym behind) among)))
+    subst (λ xs. HasSlot classes class of number xs) behind (has_slot classes all class of number within up next (to ∙ sym behind) (subst (λ xs. is_in xs of ≡ true) (sym behind) among)))
 
 -- a class whose chain has a class is there
 chain_within : (classes : List LinkedClass) (class of : ℕ) → is_in (chain_of classes class) of ≡ true → class < length classes
@@ -133,18 +133,18 @@ table_at classes tables refs texts main linked class within =
     ]
 
 -- a method of a class of the chain
-pub in_places : (classes : List LinkedClass) (tables : List Table) (refs : List (List LinkedRef)) (texts : List (List ℕ)) (main : ℕ × ℕ)
+pub in_slots : (classes : List LinkedClass) (tables : List Table) (refs : List (List LinkedRef)) (texts : List (List ℕ)) (main : ℕ × ℕ)
     → IsLinked classes tables refs texts main → (class of number : ℕ) → is_in (chain_of classes class) of ≡ true → number < length (methods_of classes of)
-    → at_place (places_of tables class) (base_of tables of + number) ≡ chosen_at classes class of number
-in_places classes tables refs texts main linked class of number there within =
+    → at_slot (table_slots tables class) (base_of tables of + number) ≡ chosen_at classes class of number
+in_slots classes tables refs texts main linked class of number there within =
     let here : slice_get tables class ≡ Some (table classes class) = table_at classes tables refs texts main linked class (chain_within classes class of there) in
     let there_too : slice_get tables of ≡ Some (table classes of) = table_at classes tables refs texts main linked of (methods_within classes of number within) in
-    let places : places_of tables class ≡ places_by classes class (chain_of classes class) = ap (λ o. unwrap_or (option_map (λ t. t.places) o) []) here in
+    let slots : table_slots tables class ≡ method_slots classes class (chain_of classes class) = ap (λ o. unwrap_or (option_map (λ t. t.slots) o) []) here in
     let first : base_of tables of ≡ base classes of = ap (λ o. unwrap_or (option_map (λ t. t.base) o) 0) there_too in
-    at_place_is (places_of tables class) (base_of tables of + number)
-    ∙ ap (λ xs. get_or xs (base_of tables of + number) None) places
-    ∙ ap (λ n. get_or (places_by classes class (chain_of classes class)) (n + number) None) first
-    ∙ (placed classes (λ d c e. (linked.each d c e).chain) class of number within (chain_of classes class) class refl there).1
+    at_slot_is (table_slots tables class) (base_of tables of + number)
+    ∙ ap (λ xs. get_or xs (base_of tables of + number) None) slots
+    ∙ ap (λ n. get_or (method_slots classes class (chain_of classes class)) (n + number) None) first
+    ∙ (has_slot classes (λ d c e. (linked.each d c e).chain) class of number within (chain_of classes class) class refl there).1
 
 differ : (x y : ℕ) → eqb y x ≡ false → eqb x y ≡ false
 differ x y is =
@@ -186,7 +186,7 @@ in_filter p xs x there passes =
 -- a method of an interface to which the class conforms
 pub in_face : (classes : List LinkedClass) (tables : List Table) (refs : List (List LinkedRef)) (texts : List (List ℕ)) (main : ℕ × ℕ)
     → IsLinked classes tables refs texts main → (class of number : ℕ) → is_interface classes of ≡ true → is_in (line_of classes class) of ≡ true → number < length (methods_of classes of)
-    → at_place (face_of (faces_of tables class) of) number ≡ chosen_at classes class of number
+    → at_slot (face_of (faces_of tables class) of) number ≡ chosen_at classes class of number
 in_face classes tables refs texts main linked class of number interface there within =
     let here : slice_get tables class ≡ Some (table classes class) = table_at classes tables refs texts main linked class (line_within classes class of there) in
     let faces : faces_of tables class ≡ map (face classes class) (interfaces_of classes class) = ap (λ o. unwrap_or (option_map (λ t. t.faces) o) []) here in
@@ -194,7 +194,7 @@ in_face classes tables refs texts main linked class of number interface there wi
     in_filter (λ i. is_interface classes i && is_in (line_of classes class) i) (numbers (length classes)) of
     (in_numbers (length classes) of (methods_within classes of number within))
     (ap (λ b. b && is_in (line_of classes class) of) interface ∙ there) in
-    at_place_is (face_of (faces_of tables class) of) number
+    at_slot_is (face_of (faces_of tables class) of) number
     ∙ ap (λ xs. get_or (face_of xs of) number None) faces
     ∙ ap (λ xs. get_or xs number None) (face_found classes class of (interfaces_of classes class) among)
     ∙ at_map (chosen classes class) (methods_of classes of) number

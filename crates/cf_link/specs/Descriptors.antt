@@ -25,7 +25,7 @@ pub data IsLetter : ℕ → ValueKind → Type 0 where
   short : IsLetter 83 Reference
   boolean : IsLetter 90 Int
 
--- a type, and what a place of it holds: a letter, `L NAME ;`, or `[` and a type
+-- a type, and the kind of its values: a letter, `L NAME ;`, or `[` and a type
 pub data IsType : List ℕ → ValueKind → Type 0 where
   letter : (byte : ℕ) (kind : ValueKind) → IsLetter byte kind → IsType (byte ∷ []) kind
   class : (name : List ℕ) → IsClassName name → IsType (76 ∷ name ++ 59 ∷ []) Reference

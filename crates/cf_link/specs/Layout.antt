@@ -1,4 +1,4 @@
--- Where the fields of an object and the selected methods of a class have their places.
+-- Where the fields of an object and the selected methods of a class have their slots.
 use Rattle.std.specs.Prelude.{ℕ, zero, suc, ◌&&◌, List, [], ◌∷◌, ◌++◌, Option, map, reverse, drop, length}
 use Rattle.std.specs.List.{filter, flat_map}
 use Rattle.ty_linear.specs.Linear.{is_in}
@@ -18,8 +18,8 @@ abbrev pub slots_by : List LinkedClass → List ℕ → List Slot
 slots_by classes chain = flat_map (own_slots classes) (reverse chain)
 
 -- what a class selects for the methods of the classes of a chain, the uppermost class first
-abbrev pub places_by : List LinkedClass → ℕ → List ℕ → List (Option (ℕ × ℕ))
-places_by classes class chain = flat_map (chosen_all classes class) (reverse chain)
+abbrev pub method_slots : List LinkedClass → ℕ → List ℕ → List (Option (ℕ × ℕ))
+method_slots classes class chain = flat_map (chosen_all classes class) (reverse chain)
 
 -- the numbers below a bound, in their order
 abbrev pub numbers : ℕ → List ℕ
@@ -33,12 +33,12 @@ interfaces_of classes class =
 
 -- what a class selects for the methods of an interface
 abbrev pub face : List LinkedClass → ℕ → ℕ → Face
-face classes class of = record { of = of; places = chosen_all classes class of }
+face classes class of = record { of = of; slots = chosen_all classes class of }
 
 -- the table of a class
 abbrev pub table : List LinkedClass → ℕ → Table
 table classes class = record {
-  base = length (places_by classes class (drop 1 (chain_of classes class)));
-  places = places_by classes class (chain_of classes class);
+  base = length (method_slots classes class (drop 1 (chain_of classes class)));
+  slots = method_slots classes class (chain_of classes class);
   faces = map (face classes class) (interfaces_of classes class);
 }

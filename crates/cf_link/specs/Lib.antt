@@ -1,4 +1,4 @@
--- What a reader must believe, in this order.
+-- What a reader must believe, in this order: what a linked set is, which one class files make, and which fault they have.
 pub mod Descriptors
 pub mod Classes
 pub mod Selection
@@ -10,6 +10,6 @@ pub mod OfFiles
 pub mod Faults
 pub mod Link
 -- For proofs only.
-pub mod Places
+pub mod TableSlots
 pub mod Parsing
 pub mod Signatures

@@ -48,7 +48,7 @@ abbrev pub IsAt : List (List ℕ) → ℕ → Option (List ℕ) → Type 0
 IsAt texts number None = ⊥
 IsAt texts number (Some text) = slice_get texts number ≡ Some text
 
--- texts, each at its first place alone
+-- texts, each kept where it comes first alone
 abbrev pub each_once : List (List ℕ) → List (List ℕ) → List (List ℕ)
 each_once found [] = found
 each_once found (text ∷ texts) = each_once (if has_text found text then found else found ++ text ∷ []) texts

@@ -8,7 +8,7 @@ ghost use Rattle.cf_link.specs.declared.value_kind.ValueKind.{ValueKind as Kind}
 use crate::value_kind::ValueKind;
 use sl_base::Name;
 
-/// What a place of the type that a text describes holds; None exactly where it describes none.
+/// The kind of the values of the type that a text describes; None exactly where it describes none.
 pub fn field_kind(descriptor: &Name) -> Option<ValueKind>
     ensures kind { IfSome result (λ kind. IsType (encode_utf8_all descriptor.now) kind) }
     ensures only { (kind : Kind) → IsType (encode_utf8_all descriptor.now) kind → result ≡ Some kind }
@@ -87,6 +87,7 @@ fn name_end(bytes: &[u8]) -> Option<&[u8]>
     None
 }
 
+// The kind of a letter's type.
 fn letter(byte: u8) -> Option<ValueKind>
     ensures { result ≡ letter byte }
 {

@@ -5,7 +5,7 @@ ghost use Rattle.cf_link.specs.BuiltIns.{built_ins};
 
 use crate::built_in::{BUILT_INS, CELLS, LAZY_CYCLE, THROWABLE};
 
-/// The numbers of built-in classes are their places.
+/// The built-in classes are named by their numbers.
 pub fn built_in_numbers()
     ensures count { length built_ins ≡ BUILT_INS }
     ensures throwable { slice_get (map (λ b. b.name) built_ins) THROWABLE ≡ Some (codes "java/lang/Throwable") }

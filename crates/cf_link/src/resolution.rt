@@ -30,6 +30,7 @@ pub fn resolved_field(
     }
 }
 
+// The first field of this name and descriptor along a chain.
 fn field_of_chain(
     classes: &[LinkedClass],
     chain: &[u32],
@@ -46,6 +47,7 @@ fn field_of_chain(
     None
 }
 
+// The first field of this name and descriptor in the interfaces of a line.
 fn field_of_interfaces(
     classes: &[LinkedClass],
     line: &[u32],
@@ -82,6 +84,7 @@ fn field_in(
     }
 }
 
+// The instance field that a class declares.
 fn instance_in(
     classes: &[LinkedClass],
     class: u32,
@@ -116,6 +119,7 @@ fn field_at(class: u32, inherited: usize, i: u32) -> Option<LinkedRef>
     }
 }
 
+// The static field that a class declares.
 fn static_in(
     classes: &[LinkedClass],
     class: u32,
@@ -130,6 +134,7 @@ fn static_in(
     }
 }
 
+// The number of the first field of this name and descriptor.
 fn position_of_field(fields: &[LinkedField], name: &Name, descriptor: &Name) -> Option<u32>
     ensures { result ≡ number_of (is_field name.now descriptor.now) fields.now }
 {
@@ -160,6 +165,7 @@ pub fn resolved_method(
     }
 }
 
+// The first method of this name and descriptor along a chain.
 fn method_of_chain(
     classes: &[LinkedClass],
     chain: &[u32],
@@ -191,6 +197,7 @@ fn of_interfaces(
     }
 }
 
+// The first method that an interface of a line declares and that isn't static.
 fn first_offered(
     classes: &[LinkedClass],
     line: &[u32],
@@ -240,6 +247,7 @@ fn method_in(
     }
 }
 
+// The number of the first method of this name and descriptor.
 fn position_of_method(methods: &[LinkedMethod], name: &Name, descriptor: &Name) -> Option<u32>
     ensures { result ≡ number_of (is_method name.now descriptor.now) methods.now }
 {

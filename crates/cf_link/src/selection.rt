@@ -73,6 +73,7 @@ pub(crate) fn declared_in(
     }
 }
 
+// The number of the first method of this name and descriptor that isn't static.
 fn wanted_in(methods: &[LinkedMethod], name: &Name, descriptor: &Name) -> Option<u32>
     ensures { result ≡ number_of (is_wanted name.now descriptor.now) methods.now }
 {
@@ -129,6 +130,7 @@ fn default_of(
     }
 }
 
+// Whether an interface of a line, below this one, declares the method again.
 fn is_declared_again(
     classes: &[LinkedClass],
     name: &Name,
@@ -157,6 +159,7 @@ fn declares_again(
         && declared_in(classes, name, descriptor, lower).is_some()
 }
 
+// The method, if it isn't abstract.
 fn if_concrete(classes: &[LinkedClass], found: Option<(u32, u32)>) -> Option<(u32, u32)>
     ensures { option_to_list result ≡ if_concrete classes.now found }
 {

@@ -5,11 +5,11 @@ use sqlite_items::Items;
 /// The methods that are selected in a class (JVMS 5.4.6), each by its class and number.
 #[derive(Debug, Drop)]
 pub struct Table {
-    /// How many places stand before those of the class's own methods.
+    /// How many slots stand before those of the class's own methods.
     pub base: u32,
-    /// One place for each method of the classes of the chain, the uppermost class first: the method that is selected for
+    /// One slot for each method of the classes of the chain, the uppermost class first: the method that is selected for
     /// it; None for a static one.
-    pub places: Items<Option<(u32, u32)>>,
+    pub slots: Items<Option<(u32, u32)>>,
     /// For each interface that the class conforms to, in rising order.
     pub faces: Items<Face>,
 }
@@ -18,5 +18,5 @@ pub struct Table {
 #[derive(Debug, Drop)]
 pub struct Face {
     pub of: u32,
-    pub places: Items<Option<(u32, u32)>>,
+    pub slots: Items<Option<(u32, u32)>>,
 }

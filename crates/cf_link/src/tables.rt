@@ -4,7 +4,7 @@ ghost use Rattle.std.specs.Prelude.{◌≡◌, ◌++◌, ◌&&◌, map, length, 
 ghost use Rattle.ty_linear.specs.Linear.{is_in};
 ghost use Rattle.cf_link.specs.Classes.{is_interface, line_of};
 ghost use Rattle.cf_link.specs.Selection.{chosen_all};
-ghost use Rattle.cf_link.specs.Layout.{places_by, numbers, interfaces_of, face, table};
+ghost use Rattle.cf_link.specs.Layout.{method_slots, numbers, interfaces_of, face, table};
 
 use crate::classes::{chain_of, is_in, is_interface, line_of, methods_of};
 use crate::linked_class::LinkedClass;
@@ -13,7 +13,7 @@ use crate::table::{Face, Table};
 use sqlite_items::Items;
 use std::alloc::{AllocError, Global};
 
-/// The table of each class. A table of 2^32 places or more is answered as want of memory.
+/// The table of each class. A table of 2^32 slots or more is answered as want of memory.
 pub fn tables_of(alloc: Global, classes: &[LinkedClass]) -> Result<Items<Table>, AllocError>
     ensures { IfOk result (λ tables. tables ≡ map (table classes.now) (numbers (length classes.now))) }
 {
@@ -27,38 +27,39 @@ pub fn tables_of(alloc: Global, classes: &[LinkedClass]) -> Result<Items<Table>,
     Ok(tables)
 }
 
+// The table of a class.
 fn table_of(alloc: Global, classes: &[LinkedClass], class: u32) -> Result<Table, AllocError>
     ensures { IfOk result (λ t. t ≡ table classes.now class) }
 {
     let chain = chain_of(classes, class);
     let above = if chain.is_empty() { chain } else { &chain[1..] };
-    let base = places_by(alloc, classes, class, above)?.len();
+    let base = method_slots(alloc, classes, class, above)?.len();
     if base >= 1 << 32 {
         return Err(AllocError);
     }
     Ok(Table {
         base: base as u32,
-        places: places_by(alloc, classes, class, chain)?,
+        slots: method_slots(alloc, classes, class, chain)?,
         faces: faces_of(alloc, classes, class)?,
     })
 }
 
 // What a class selects for the methods of the classes of a chain, the uppermost class first.
-fn places_by(
+fn method_slots(
     alloc: Global,
     classes: &[LinkedClass],
     class: u32,
     chain: &[u32],
 ) -> Result<Items<Option<(u32, u32)>>, AllocError>
-    ensures { IfOk result (λ places. places ≡ places_by classes.now class chain.now) }
+    ensures { IfOk result (λ slots. slots ≡ method_slots classes.now class chain.now) }
 {
-    let mut places = Items::new(alloc);
+    let mut slots = Items::new(alloc);
     let mut rest = chain;
     while let Some((of, more)) = rest.split_last() {
-        put_chosen(classes, class, *of, &mut places)?;
+        put_chosen(classes, class, *of, &mut slots)?;
         rest = more;
     }
-    Ok(places)
+    Ok(slots)
 }
 
 // What a class selects for each method of a class or interface.
@@ -66,25 +67,26 @@ fn put_chosen(
     classes: &[LinkedClass],
     class: u32,
     of: u32,
-    places: &mut Items<Option<(u32, u32)>>,
+    slots: &mut Items<Option<(u32, u32)>>,
 ) -> Result<(), AllocError>
-    ensures { OnOk result (places.new ≡ places.old ++ chosen_all classes.now class of) }
+    ensures { OnOk result (slots.new ≡ slots.old ++ chosen_all classes.now class of) }
 {
     for method in methods_of(classes, of) {
-        places.push(chosen(classes, class, method))?;
+        slots.push(chosen(classes, class, method))?;
     }
     Ok(())
 }
 
+// What a class selects for the methods of each interface to which it conforms.
 fn faces_of(alloc: Global, classes: &[LinkedClass], class: u32) -> Result<Items<Face>, AllocError>
     ensures { IfOk result (λ faces. faces ≡ map (face classes.now class) (interfaces_of classes.now class)) }
 {
     let mut faces = Items::new(alloc);
     let interfaces = interfaces_of(alloc, classes, class)?;
     for of in interfaces.as_slice() {
-        let mut places = Items::new(alloc);
-        put_chosen(classes, class, *of, &mut places)?;
-        faces.push(Face { of: *of, places })?;
+        let mut slots = Items::new(alloc);
+        put_chosen(classes, class, *of, &mut slots)?;
+        faces.push(Face { of: *of, slots })?;
     }
     Ok(faces)
 }

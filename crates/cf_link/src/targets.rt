@@ -3,7 +3,7 @@
 ghost use Rattle.std.specs.Prelude.{◌≡◌, ◌<◌, length, IsTrue};
 ghost use Rattle.cf_link.specs.Classes.{conforms, methods_of};
 ghost use Rattle.cf_link.specs.Selection.{chosen_at};
-ghost use Rattle.cf_link.specs.Places.{base_of, places_of, faces_of, face_of, at_place};
+ghost use Rattle.cf_link.specs.TableSlots.{base_of, table_slots, faces_of, face_of, at_slot};
 
 use crate::classes::is_interface;
 use crate::linked::Linked;
@@ -19,15 +19,16 @@ pub fn target(k: &Linked, class: u32, of: u32, number: u32) -> Option<(u32, u32)
 {
     let tables = k.tables.as_slice();
     if is_interface(k.classes.as_slice(), of) {
-        at_place(face_of(faces_of(tables, class), of), number as usize)
+        at_slot(face_of(faces_of(tables, class), of), number as usize)
     } else {
-        at_place(
-            places_of(tables, class),
+        at_slot(
+            table_slots(tables, class),
             base_of(tables, of) as usize + number as usize,
         )
     }
 }
 
+// Where the slots of a class's own methods begin.
 fn base_of(tables: &[Table], class: u32) -> u32
     ensures { result ≡ base_of tables.now class }
 {
@@ -37,15 +38,17 @@ fn base_of(tables: &[Table], class: u32) -> u32
     }
 }
 
-fn places_of(tables: &[Table], class: u32) -> &[Option<(u32, u32)>]
-    ensures { result.now ≡ places_of tables.now class }
+// The slots of a class.
+fn table_slots(tables: &[Table], class: u32) -> &[Option<(u32, u32)>]
+    ensures { result.now ≡ table_slots tables.now class }
 {
     match at(tables, class as usize) {
-        Some(table) => table.places.as_slice(),
+        Some(table) => table.slots.as_slice(),
         None => &[],
     }
 }
 
+// The interfaces of a class, with their slots.
 fn faces_of(tables: &[Table], class: u32) -> &[Face]
     ensures { result.now ≡ faces_of tables.now class }
 {
@@ -55,21 +58,23 @@ fn faces_of(tables: &[Table], class: u32) -> &[Face]
     }
 }
 
+// The slots of an interface; none where it isn't there.
 fn face_of(faces: &[Face], of: u32) -> &[Option<(u32, u32)>]
     ensures { result.now ≡ face_of faces.now of }
 {
     for face in faces {
         if face.of == of {
-            return face.places.as_slice();
+            return face.slots.as_slice();
         }
     }
     &[]
 }
 
-fn at_place(places: &[Option<(u32, u32)>], place: usize) -> Option<(u32, u32)>
-    ensures { result ≡ at_place places.now place }
+// What stands at a slot; nothing past the last one.
+fn at_slot(slots: &[Option<(u32, u32)>], slot: usize) -> Option<(u32, u32)>
+    ensures { result ≡ at_slot slots.now slot }
 {
-    match at(places, place) {
+    match at(slots, slot) {
         Some(found) => *found,
         None => None,
     }

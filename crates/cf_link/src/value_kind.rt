@@ -1,6 +1,6 @@
 //! Kinds of values.
 
-/// What a place of a type holds (JVMS 2.11.1): an `int` for I and Z, a `long` for J, else a reference.
+/// The kind of the values of a type (JVMS 2.11.1): an `int` for I and Z, a `long` for J, else a reference.
 #[derive(Clone, Copy, Debug, PartialEq, Eq)]
 pub enum ValueKind {
     Int,

@@ -169,12 +169,12 @@ pub pair_read : (bytes : List ℕ) (at high low size c : ℕ) → drop at bytes 
 pair_read bytes at high low size c p q r e =
     let f = pair_form c high low e.1 in
     let s : size ≡ 3 = r ∙ surrogate_length low (omega (arith, f.2)) in
-    let place : at + 3 + size ≡ at + 6 = omega arith in
+    let offset : at + 3 + size ≡ at + 6 = omega arith in
     let b = bytes_of_pair c high low e.1 in
     let two = length-append (unit_bytes high) (unit_bytes low) in
     record {
       scalar = e.0;
-      splits = p ∙ ap (λ l. unit_bytes high ++ l) (q ∙ ap (λ n. unit_bytes low ++ drop n bytes) place)
+      splits = p ∙ ap (λ l. unit_bytes high ++ l) (q ∙ ap (λ n. unit_bytes low ++ drop n bytes) offset)
           ∙ sym (append_assoc (unit_bytes high) (unit_bytes low) (drop (at + 6) bytes)) ∙ ap (λ l. l ++ drop (at + 6) bytes) (sym b);
       long = omega (arith, ap length b, two, surrogate_length low (omega (arith, f.2)), surrogate_length high (omega (arith, f.1)));
     }

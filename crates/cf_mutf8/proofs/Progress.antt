@@ -64,18 +64,18 @@ read_plain bytes text at zero h l p =
 read_plain bytes text at (suc n) h l p =
     let before = read_plain bytes text at n h (omega arith) (λ k a b. p k a (omega arith)) in
     let more = plain_more bytes (text ++ take n (drop at bytes)) (at + n) before (p (at + n) (omega arith) (omega arith)) in
-    let place : at + n + 1 ≡ at + suc n = omega arith in
+    let offset : at + n + 1 ≡ at + suc n = omega arith in
     let next : n + 1 ≡ suc n = omega arith in
     let within : n < length (drop at bytes) = omega (arith, length-drop at bytes) in
     let one_more = ap (λ m. take m (drop at bytes)) (sym next) ∙ take_more (drop at bytes) n 0 within ∙ ap (λ b. take n (drop at bytes) ++ b ∷ []) (get_or-drop at bytes n 0) in
     let same = append_assoc text (take n (drop at bytes)) (get_or bytes (at + n) 0 ∷ []) ∙ ap (λ l. text ++ l) (sym one_more) in
-    subst (λ m. IsReadTo bytes (text ++ take (suc n) (drop at bytes)) m) place (subst (λ t. IsReadTo bytes t (at + n + 1)) same more)
+    subst (λ m. IsReadTo bytes (text ++ take (suc n) (drop at bytes)) m) offset (subst (λ t. IsReadTo bytes t (at + n + 1)) same more)
 
 pub read_run : (bytes text : List ℕ) (at end : ℕ) → IsReadTo bytes text at → at ≤ end → end ≤ length bytes
     → ((k : ℕ) → at ≤ k → k < end → IsInRange 0x01 0x7F (get_or bytes k 0)) → IsReadTo bytes (text ++ take (end - at) (drop at bytes)) end
 read_run bytes text at end h l m p =
-    let place : at + (end - at) ≡ end = omega arith in
-    subst (IsReadTo bytes (text ++ take (end - at) (drop at bytes))) place (read_plain bytes text at (end - at) h (omega arith) (λ k a b. p k a (omega arith)))
+    let offset : at + (end - at) ≡ end = omega arith in
+    subst (IsReadTo bytes (text ++ take (end - at) (drop at bytes))) offset (read_plain bytes text at (end - at) h (omega arith) (λ k a b. p k a (omega arith)))
 
 pub run_ascii : (bytes : List ℕ) (at end : ℕ) → ((k : ℕ) → at ≤ k → k < end → IsInRange 0x01 0x7F (get_or bytes k 0))
     → IsAscii (take (end - at) (drop at bytes))

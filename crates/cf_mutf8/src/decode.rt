@@ -1,37 +1,17 @@
-//! Texts of modified UTF-8.
+//! Parts of a text of modified UTF-8.
 
-ghost use Rattle.std.specs.Prelude.{◌≡◌, ◌<◌, ◌≤◌, ◌^◌, ◌↔◌, ℕ, List, length, slice_index, IfOk, MatchResult};
+ghost use Rattle.std.specs.Prelude.{◌<◌, ◌≤◌, ◌^◌, ℕ, List, length, slice_index, MatchResult};
 ghost use Rattle.std.specs.Int.{IsInRange};
 ghost use Rattle.std.specs.Str.{chars};
 ghost use Rattle.std.specs.String.{string_bytes};
-ghost use Rattle.cf_mutf8.specs.ModifiedUtf8.{encoded, Spells, IsBadUnitAt};
 ghost use Rattle.cf_mutf8.specs.Reading.{IsReadTo, IsCause};
 
 use crate::characters::character_at;
 use crate::utf8_fault::Utf8Fault;
-use std::alloc::Global;
 use std::str::from_utf8_unchecked;
 
-/// The text that the bytes spell in modified UTF-8 (JVMS 4.4.7). `Memory` comes only at bytes that spell one.
-pub fn get(alloc: Global, bytes: &[u8]) -> Result<String, Utf8Fault>
-    requires { length bytes.now < 2 ^ 32 }
-    ensures text { IfOk result (λ text. bytes.now ≡ encoded (chars (string_bytes text))) }
-    ensures bad_utf { (at : ℕ) → (result ≡ Err (Utf8Fault.BadUtf at)) ↔ IsBadUnitAt bytes.now at }
-    ensures memory { result ≡ Err Utf8Fault.Memory → (text : List ℕ) × Spells bytes.now text }
-{
-    let mut text = String::new(alloc);
-    let mut at = 0;
-    while at < bytes.len() {
-        match push_next(bytes, at, &mut text) {
-            Ok(next) => at = next,
-            Err(fault) => return Err(fault),
-        }
-    }
-    Ok(text)
-}
-
 // Appends what stands at `at`, a run of plain bytes or one character, and gives the offset behind it.
-fn push_next(bytes: &[u8], at: usize, text: &mut String) -> Result<usize, Utf8Fault>
+pub(crate) fn push_next(bytes: &[u8], at: usize, text: &mut String) -> Result<usize, Utf8Fault>
     requires limit { length bytes.now < 2 ^ 32 }
     requires within { at < length bytes.now }
     requires reads { IsReadTo bytes.now (chars (string_bytes text.old)) at }

@@ -1,4 +1,4 @@
--- What a reader must believe.
+-- What a reader must believe: the way through a file and its codes, and which fault is the first.
 pub mod Reading
 pub mod Codes
 pub mod FileFaults

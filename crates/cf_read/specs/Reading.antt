@@ -25,8 +25,8 @@ Read A = Result (A × List ℕ) Fault
 abbrev pub refused : {A : Type 0} → FileKind → List ℕ → Result A Fault
 refused kind from = Err (record { kind = kind; left = length from })
 
--- one after the other, up to a fault
 infixl 10 ◌>>=◌
+-- one after the other, up to a fault
 abbrev pub ◌>>=◌ : {A B : Type 0} → Result A Fault → (A → Result B Fault) → Result B Fault
 (Ok x) >>= f = f x
 (Err e) >>= f = Err e

@@ -1,5 +1,5 @@
 -- The texts of a pool as numbers, and the members that were read as numbers made of these.
-use Rattle.std.specs.Prelude.{◌≡◌, ◌≢◌, [], ℕ, ◌+◌, ◌*◌, ◌^◌, ◌<◌, ◌==◌, List, Option, None, Some, slice_index, encode_utf8_all}
+use Rattle.std.specs.Prelude.{◌≡◌, ◌≢◌, [], ℕ, ◌+◌, ◌*◌, ◌^◌, ◌<◌, ◌==◌, ◌&&◌, ◌||◌, Bool, List, Option, None, Some, slice_index, encode_utf8_all}
 use Rattle.std.specs.BTreeMap as tree
 use Rattle.std.specs.BTreeMap.{BTreeMap}
 use Rattle.std.specs.BTreeSet as sorted
@@ -25,14 +25,19 @@ pub record NumbersTexts (pool : List Const) (texts : List ℕ) : Type 0 where
   pub same : (i j : ℕ) → (text_number texts i == text_number texts j) ≡ same_text (text_at pool i) (text_at pool j)
   pub fit : (i : ℕ) → text_number texts i < 2 ^ 16
 
--- one number for the indexes of a name and a descriptor
-abbrev pub member_number : List ℕ → ℕ × ℕ → ℕ
-member_number texts key = text_number texts key.0 * 65536 + text_number texts key.1
+-- the first descriptors of names, and the other members, have these numbers of a name and a descriptor
+abbrev pub has_numbers : List ℕ → BTreeSet ℕ → ℕ → ℕ → Bool
+has_numbers firsts others name descriptor =
+    (slice_index firsts name == descriptor + 1) || sorted.contains nat_cmp others (name * 65536 + descriptor)
 
--- the set has the numbers of these members, and no other
-abbrev pub AreSeen : List ℕ → BTreeSet ℕ → List (ℕ × ℕ) → Type 0
-AreSeen texts numbers keys =
-    (k : ℕ) → sorted.contains nat_cmp numbers k ≡ list_any (λ key. member_number texts key == k) keys
+-- the indexes of a name and a descriptor have these numbers
+abbrev pub are_numbered : List ℕ → ℕ → ℕ → ℕ × ℕ → Bool
+are_numbered texts name descriptor key = (name == text_number texts key.0) && (descriptor == text_number texts key.1)
+
+-- the numbers of these members are there, and no others
+abbrev pub AreSeen : List ℕ → List ℕ → BTreeSet ℕ → List (ℕ × ℕ) → Type 0
+AreSeen texts firsts others keys =
+    (name descriptor : ℕ) → descriptor < 2 ^ 16 → has_numbers firsts others name descriptor ≡ list_any (are_numbered texts name descriptor) keys
 
 -- the first index that has this text in UTF-8
 abbrev pub first_of : BTreeMap (Bor (List ℕ)) ℕ → List ℕ → Option ℕ
@@ -54,4 +59,4 @@ NumbersIfAny pool texts = texts ≢ [] → NumbersTexts pool texts
 -- the members are told apart by what this pool has; the texts have numbers, unless there is no member yet
 pub record AreKept (pool : List Const) (texts : List ℕ) (members : Members) : Type 0 where
   pub numbered : members.keys.items ≢ [] → NumbersTexts pool texts
-  pub seen : AreSeen texts members.numbers members.keys.items
+  pub seen : AreSeen texts members.firsts.items members.others members.keys.items

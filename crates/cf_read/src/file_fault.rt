@@ -19,7 +19,7 @@ pub enum FileKind {
     /// The major version isn't one of 45 to 49 and 52.
     #[error("a version that is neither 45 to 49 nor 52")]
     Version,
-    /// The file ends too early; the offset is its length.
+    /// The file ends before the number, text, code or attribute that is being read; the offset is its length.
     #[error("the file ends too early")]
     Cut,
     /// Bytes follow the last attribute.

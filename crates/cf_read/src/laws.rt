@@ -22,7 +22,9 @@ pub fn reading()
 
 /// What the simple kinds of fault are. Magic comes exactly where the first four bytes are there and aren't the magic, at the
 /// first of them. Version comes exactly where the magic is right and the major version, which is there, isn't one that is
-/// read, at its first byte. Cut stands at the end. Rest stands before it, and comes where bytes follow those of a file.
+/// read, at its first byte. Cut comes where the way through the file, without a fault so far, needs more bytes than are left
+/// (`some_at` and `u1_at` of `Reading`); it stands at the end. Rest stands before the end, and comes where bytes follow those of
+/// a file.
 pub fn simple_kinds()
     ensures magic { (bytes : List ℕ) (at : ℕ) → IsFileFault bytes (record { at = at; kind = FileKind.Magic }) ↔ ((at ≡ 0) × HasOtherMagic bytes) }
     ensures version { (bytes : List ℕ) (at : ℕ) → IsFileFault bytes (record { at = at; kind = FileKind.Version }) ↔ ((at ≡ 6) × HasOtherVersion bytes) }

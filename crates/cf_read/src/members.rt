@@ -14,7 +14,7 @@ use crate::file_fault::FileKind;
 use crate::numbers::u2_at;
 use crate::parts::FrontParts;
 use crate::references::index_at;
-use crate::seen::{Members, is_among, keep, no_members};
+use crate::seen::{Members, is_among, keep, no_members, room_for};
 use crate::text_numbers::number_for;
 use cf_form::{Const, FieldInfo, Kind};
 use std::alloc::Global;
@@ -72,8 +72,9 @@ fn read_all_fields<'a>(
     requires { 1 < count → NumbersTexts pool.now texts.now }
     ensures { Gives (λ x. (x.0.items, x.1.now)) result (members_at (field_at pool.now) (field_key pool.now) count [] bytes.now) }
 {
-    let mut fields = Vec::new(alloc);
-    let mut members = no_members(alloc);
+    let room = room_for(count, bytes);
+    let mut fields = Vec::with_capacity(alloc, room)?;
+    let mut members = no_members(alloc, texts, room)?;
     let mut rest = bytes;
     for _ in 0..count {
         let (field, after) = field_at(pool, texts, &members, rest)?;

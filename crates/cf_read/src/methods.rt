@@ -12,7 +12,7 @@ use crate::members::front_at;
 use crate::method_attributes::{is_without_code, method_attributes_at};
 use crate::numbers::u2_at;
 use crate::parts::MethodParts;
-use crate::seen::{Members, keep, no_members};
+use crate::seen::{Members, keep, no_members, room_for};
 use crate::text_numbers::number_for;
 use cf_form::Const;
 use std::alloc::Global;
@@ -44,8 +44,9 @@ fn read_all_methods<'a>(
     requires { 1 < count → NumbersTexts pool.now texts.now }
     ensures { Gives (λ x. (map method_of x.0.items, x.1.now)) result (members_at (method_at pool.now) (method_key pool.now) count [] bytes.now) }
 {
-    let mut methods = Vec::new(alloc);
-    let mut members = no_members(alloc);
+    let room = room_for(count, bytes);
+    let mut methods = Vec::with_capacity(alloc, room)?;
+    let mut members = no_members(alloc, texts, room)?;
     let mut rest = bytes;
     for _ in 0..count {
         let (method, after) = method_at(alloc, pool, texts, &members, rest)?;

@@ -26,6 +26,7 @@ struct Head {
     pool: Vec<Const>,
 }
 
+// The magic, the version and the constant pool.
 #[tactic(auto, unfolding(crate::specs::Reading::head_at))]
 fn head_at(alloc: Global, bytes: &[u8]) -> Result<(Head, &[u8]), Stop>
     ensures { Gives (λ x. (((x.0.minor, x.0.major), x.0.pool.items), x.1.now)) result (head_at bytes.now) }

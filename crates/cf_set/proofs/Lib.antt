@@ -1,4 +1,6 @@
-mod Spelling
-mod BuiltInNames
-mod Twice
-mod Missing
+pub mod Spelling
+pub mod BuiltInNames
+pub mod Twice
+pub mod Missing
+pub mod Distinct
+pub mod Reading

@@ -29,7 +29,7 @@ flip : (a b : Bool) → a ≡ not b → b ≡ not a
 flip a true e = sym (ap not e)
 flip a false e = sym (ap not e)
 
--- one place more that isn't one of these
+-- one number more that isn't one of these
 pub none_more : (is_one : ℕ → Type 0) (i : ℕ) → NoneBefore is_one i → ¬ (is_one i) → NoneBefore is_one (i + 1)
 none_more is_one i none here k below one = by (cases_lt k i)
   where
@@ -46,9 +46,9 @@ NoneMissing files i =
 pub record SaysNoClass (files : List ClassFile) (i index : ℕ) (told : List ℕ) : Type 0 where
   pub file : ClassFile
   pub there : slice_get files i ≡ Some file
-  pub place : ℕ
-  pub at : index ≡ place + 1
-  pub lacks : LacksAt (names_of files) file.pool place
+  pub number : ℕ
+  pub at : index ≡ number + 1
+  pub lacks : LacksAt (names_of files) file.pool number
 
 -- whether a text is that of a name which isn't there
 abbrev pub lacks_text : List (List ℕ) → Option (List ℕ) → Bool
@@ -87,10 +87,10 @@ lacks_by names pool text name named new = ap (lacks_text names) named ∙ by (ha
 
 pub says_no_class : (files : List ClassFile) (i n : ℕ) (told : List ℕ) → IsFault files NoClass i n told → SaysNoClass files i n told
 says_no_class files i n told (no_class _ zero text file _ there at named new) = absurd cc
-says_no_class files i n told (no_class _ (suc place) text file name there at named new) = record {
+says_no_class files i n told (no_class _ (suc number) text file name there at named new) = record {
   file = file;
   there = there;
-  place = place;
+  number = number;
   at = omega arith;
   lacks = (constant.Class text, at, lacks_by (names_of files) file.pool text name named new);
 }
@@ -111,26 +111,26 @@ file_clear files i file names are there clear none = none_more _ i none here
         let lacks_here : LacksAt names file.pool n = subst (λ names. LacksAt names file.pool n) (sym are) (subst (λ f. LacksAt (names_of files) f.pool n) same lacks) in
         clear n (slice_get_within file.pool n lacks_here.0 lacks_here.1) lacks_here
 
-entry_at : (pool : List Const) (place : ℕ) → entry pool (place + 1) ≡ slice_get pool place
-entry_at pool place = ap (entry pool) (add-one place)
+entry_at : (pool : List Const) (number : ℕ) → entry pool (number + 1) ≡ slice_get pool number
+entry_at pool number = ap (entry pool) (add-one number)
 
 -- where a fault of the same kind that comes before stands
-pub place_before : (a b : LinkKind) (j n i m : ℕ) → a ≡ b → ComesBefore a j n b i m → (j < i) ⊎ ((j ≡ i) × (n < m))
-place_before a b j n i m alike (before.kind _ _ _ _ _ _ less) = absurd (omega (arith, less, ap rank alike))
-place_before a b j n i m alike (before.file _ _ _ _ _ less) = inl less
-place_before a b j n i m alike (before.index _ _ _ _ less) = inr (refl, less)
+pub before_alike : (a b : LinkKind) (j n i m : ℕ) → a ≡ b → ComesBefore a j n b i m → (j < i) ⊎ ((j ≡ i) × (n < m))
+before_alike a b j n i m alike (before.kind _ _ _ _ _ _ less) = absurd (omega (arith, less, ap rank alike))
+before_alike a b j n i m alike (before.file _ _ _ _ _ less) = inl less
+before_alike a b j n i m alike (before.index _ _ _ _ less) = inr (refl, less)
 
 -- a file with the first such entry
-pub first_no_class : (files : List ClassFile) (i place : ℕ) (file : ClassFile) (names : List (List ℕ)) → names ≡ names_of files → slice_get files i ≡ Some file
-    → LacksAt names file.pool place → NoneBefore (LacksAt names file.pool) place → NoneMissing files i → IsFirstNoClass files (i, place)
-first_no_class files i place file names are there lacks first none = (
+pub first_no_class : (files : List ClassFile) (i number : ℕ) (file : ClassFile) (names : List (List ℕ)) → names ≡ names_of files → slice_get files i ≡ Some file
+    → LacksAt names file.pool number → NoneBefore (LacksAt names file.pool) number → NoneMissing files i → IsFirstNoClass files (i, number)
+first_no_class files i number file names are there lacks first none = (
   file,
   says.name,
   there,
-  ap (text_of file.pool) (entry_at file.pool place) ∙ at ∙ says.named,
+  ap (text_of file.pool) (entry_at file.pool number) ∙ at ∙ says.named,
   record {
-    is = no_class i (place + 1) says.text file says.name there (entry_at file.pool place ∙ lacks.1 ∙ ap Some says.is) says.named (λ has. true≢false (sym has ∙ new));
-    first = λ j n name fault earlier. refuted j n name (says_no_class files j n name fault) (place_before NoClass NoClass j n i (place + 1) refl earlier);
+    is = no_class i (number + 1) says.text file says.name there (entry_at file.pool number ∙ lacks.1 ∙ ap Some says.is) says.named (λ has. true≢false (sym has ∙ new));
+    first = λ j n name fault earlier. refuted j n name (says_no_class files j n name fault) (before_alike NoClass NoClass j n i (number + 1) refl earlier);
   },
 )
   where
@@ -140,16 +140,16 @@ first_no_class files i place file names are there lacks first none = (
     new : has_text (names_of files) says.name ≡ false
     new = ap (λ names. has_text names says.name) (sym are) ∙ says.new
 
-    at : text_of file.pool (slice_get file.pool place) ≡ text_at file.pool says.text
+    at : text_of file.pool (slice_get file.pool number) ≡ text_at file.pool says.text
     at = ap (text_of file.pool) (lacks.1 ∙ ap Some says.is)
 
-    refuted : (j n : ℕ) (name : List ℕ) → SaysNoClass files j n name → (j < i) ⊎ ((j ≡ i) × (n < place + 1)) → ⊥
-    refuted j n name other (inl less) = none j less (other.file, other.place, other.there, other.lacks)
+    refuted : (j n : ℕ) (name : List ℕ) → SaysNoClass files j n name → (j < i) ⊎ ((j ≡ i) × (n < number + 1)) → ⊥
+    refuted j n name other (inl less) = none j less (other.file, other.number, other.there, other.lacks)
     refuted j n name other (inr (same, less)) =
         let same_file : other.file ≡ file = cc in
-        let lacks_here : LacksAt names file.pool other.place =
-        subst (λ names. LacksAt names file.pool other.place) (sym are) (subst (λ f. LacksAt (names_of files) f.pool other.place) same_file other.lacks) in
-        first other.place (omega (arith, other.at, less)) lacks_here
+        let lacks_here : LacksAt names file.pool other.number =
+        subst (λ names. LacksAt names file.pool other.number) (sym are) (subst (λ f. LacksAt (names_of files) f.pool other.number) same_file other.lacks) in
+        first other.number (omega (arith, other.at, less)) lacks_here
 
 -- no file has one
 pub none_no_class : (files : List ClassFile) (i : ℕ) → length files ≤ i → NoneMissing files i → HasNone files NoClass
@@ -157,4 +157,4 @@ none_no_class files i all none = λ j n name fault. refuted j n name (says_no_cl
   where
     refuted : (j n : ℕ) (name : List ℕ) → SaysNoClass files j n name → ⊥
     refuted j n name says =
-        none j (omega (arith, slice_get_within files j says.file says.there, all)) (says.file, says.place, says.there, says.lacks)
+        none j (omega (arith, slice_get_within files j says.file says.there, all)) (says.file, says.number, says.there, says.lacks)

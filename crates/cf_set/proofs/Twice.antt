@@ -39,7 +39,7 @@ names_before files i =
     take-append-add (map (λ b. b.name) built_ins) (map name_of files) i
     ∙ ap (λ names. map (λ b. b.name) built_ins ++ names) (take-map name_of i files)
 
--- a place before another of the same kind at index 0 is in an earlier file
+-- a fault before another of the same kind at index 0 is in an earlier file
 pub earlier : (a b : LinkKind) (j n i m : ℕ) → a ≡ b → m ≡ 0 → ComesBefore a j n b i m → j < i
 earlier a b j n i m alike none (before.kind _ _ _ _ _ _ less) = absurd (omega (arith, less, ap rank alike))
 earlier a b j n i m alike none (before.file _ _ _ _ _ less) = less
@@ -61,12 +61,12 @@ pub one_more : (files : List ClassFile) (i : ℕ) (names after : List (List ℕ)
     → has_text names (name_of file) ≡ false → after ≡ with_name names (name_of file) → AreNamed files (i + 1) after
 one_more files i names after file named there is_new put = record {
   names_are = put ∙ ap (λ b. if b then names else names ++ name_of file ∷ []) is_new ∙ ap (λ names. names ++ name_of file ∷ []) named.names_are ∙ names_next files i file there;
-  new = λ j f below at. by_place j f at below (cases_lt j i);
+  new = λ j f below at. by_file j f at below (cases_lt j i);
 }
   where
-    by_place : (j : ℕ) (f : ClassFile) → slice_get files j ≡ Some f → j < i + 1 → (j < i) ⊎ (i ≤ j) → has_text (names_to files j) (name_of f) ≡ false
-    by_place j f at below (inl less) = named.new j f less at
-    by_place j f at below (inr past) =
+    by_file : (j : ℕ) (f : ClassFile) → slice_get files j ≡ Some f → j < i + 1 → (j < i) ⊎ (i ≤ j) → has_text (names_to files j) (name_of f) ≡ false
+    by_file j f at below (inl less) = named.new j f less at
+    by_file j f at below (inr past) =
         let same : j ≡ i = omega arith in
         let same_file : f ≡ file = cc in
         ap (λ n. has_text (names_to files n) (name_of f)) same ∙ ap (λ f. has_text (names_to files i) (name_of f)) same_file

@@ -19,17 +19,17 @@ pub record IsFirst (files : List ClassFile) (of : LinkKind) (i index : ℕ) (tol
 abbrev pub IsFirstTwice : List ClassFile → ℕ → Type 0
 IsFirstTwice files i = (file : ClassFile) × (slice_get files i ≡ Some file) × IsFirst files Twice i 0 (name_of file)
 
--- this file, at this place of its pool, is the first that names a class that isn't there
+-- this file, at the entry of this number in its pool, is the first that names a class that isn't there
 abbrev pub IsFirstNoClass : List ClassFile → ℕ × ℕ → Type 0
-IsFirstNoClass files place =
-    (file : ClassFile) × (told : List ℕ) × (slice_get files place.0 ≡ Some file)
-    × (class_named file.pool (place.1 + 1) ≡ Some told) × IsFirst files NoClass place.0 (place.1 + 1) told
+IsFirstNoClass files at =
+    (file : ClassFile) × (told : List ℕ) × (slice_get files at.0 ≡ Some file)
+    × (class_named file.pool (at.1 + 1) ≡ Some told) × IsFirst files NoClass at.0 (at.1 + 1) told
 
--- no place before this one is one of these
+-- no number below this one is one of these
 abbrev pub NoneBefore : (ℕ → Type 0) → ℕ → Type 0
 NoneBefore is_one i = (k : ℕ) → k < i → ¬ (is_one k)
 
--- the first of a list's places that is one of these
+-- the first number below a bound that is one of these
 abbrev pub IfFirst : (ℕ → Type 0) → ℕ → Option ℕ → Type 0
 IfFirst is_one count result = MatchOption result (NoneBefore is_one count) (λ k. is_one k × NoneBefore is_one k)
 
@@ -38,6 +38,6 @@ abbrev pub lacks_class : List (List ℕ) → List Const → Const → Bool
 lacks_class names pool (constant.Class text) = unwrap_or (option_map (λ name. not (has_text names name)) (text_at pool text)) false
 lacks_class names pool _ = false
 
--- the entry at a place of a pool names a class that has none of the names
+-- the entry of a number in a pool (its index less 1) names a class that has none of the names
 abbrev pub LacksAt : List (List ℕ) → List Const → ℕ → Type 0
 LacksAt names pool k = (c : Const) × (slice_get pool k ≡ Some c) × (lacks_class names pool c ≡ true)

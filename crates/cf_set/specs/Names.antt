@@ -1,5 +1,5 @@
 -- The names of a set's classes, in the order of their numbers.
-use Rattle.std.specs.Prelude.{List, ℕ, ◌∷◌, ◌++◌, [], Option, if◌then◌else◌}
+use Rattle.std.specs.Prelude.{◌≡◌, List, ℕ, ◌∷◌, ◌++◌, [], Option, Some, slice_get, if◌then◌else◌}
 use Rattle.std.specs.List.{position_from}
 use Rattle.std.specs.Str.{bytes_eq}
 use Rattle.cf_link.specs.OfFiles.{has_text}
@@ -16,3 +16,7 @@ number_in names name = position_from (bytes_eq name) 0 names
 abbrev pub with_names : List (List ℕ) → List (List ℕ) → List (List ℕ)
 with_names names [] = names
 with_names names (name ∷ more) = with_names (with_name names name) more
+
+-- no name stands at two numbers
+abbrev pub AreDistinct : List (List ℕ) → Type 0
+AreDistinct names = (i j : ℕ) (name : List ℕ) → slice_get names i ≡ Some name → slice_get names j ≡ Some name → i ≡ j

@@ -8,6 +8,7 @@ ghost use Rattle.cf_set.specs.Names.{with_names};
 use crate::names::Names;
 use std::alloc::{AllocError, Global};
 
+// By their numbers.
 const BUILT_IN_NAMES: [&str; 28] = [
     "java/lang/Object",
     "java/lang/String",

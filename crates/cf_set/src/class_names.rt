@@ -10,22 +10,22 @@ use crate::names::Names;
 use crate::pool::text_at;
 use cf_form::{ClassFile, Const};
 
-/// The file and the place in its pool (an index less 1) of the first entry that names a class that isn't there; None exactly
-/// where each is there.
+/// The file of the first entry that names a class that isn't there, and the entry's number in its pool, which is its index
+/// less 1; None exactly where each is there.
 pub fn first_missing(names: &Names, files: &[ClassFile]) -> Option<(usize, usize)>
     requires { names.now ≡ names_of files.now }
     ensures { MatchOption result (HasNone files.now NoClass) (IsFirstNoClass files.now) }
 {
     for i in 0..files.len() {
         match missing_in(names, files[i].pool.as_slice()) {
-            Some(place) => return Some((i, place)),
+            Some(number) => return Some((i, number)),
             None => {}
         }
     }
     None
 }
 
-// The place of the first entry of a pool that names a class that isn't there.
+// The number of the first entry of a pool that names a class that isn't there.
 fn missing_in(names: &Names, pool: &[Const]) -> Option<usize>
     ensures { IfFirst (LacksAt names.now pool.now) (length pool.now) result }
 {
@@ -37,6 +37,7 @@ fn missing_in(names: &Names, pool: &[Const]) -> Option<usize>
     None
 }
 
+// Whether an entry names a class that has none of the names.
 fn is_missing(names: &Names, pool: &[Const], entry: &Const) -> bool
     ensures { result ≡ lacks_class names.now pool.now entry.now }
 {

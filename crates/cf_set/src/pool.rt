@@ -5,7 +5,9 @@ ghost use Rattle.std.specs.Option.{option_copied};
 ghost use Rattle.std.specs.Str.{chars};
 ghost use Rattle.cf_form.specs.Pool.{text_at};
 ghost use Rattle.cf_link.specs.OfFiles.{class_named, name_of};
+ghost use Rattle.cf_set.specs.Indexes.{number_at};
 
+use crate::names::Names;
 use cf_form::{ClassFile, Const, entry};
 use sl_base::Name;
 
@@ -27,6 +29,16 @@ pub fn class_named(pool: &[Const], index: u16) -> Option<&Name>
         Some(Const::Class(name)) => text_at(pool, *name),
         Some(Const::Text(text)) => text_at(pool, *text),
         _ => None,
+    }
+}
+
+/// The number of the class that an index names; None where there is no such class.
+pub fn number_at(names: &Names, pool: &[Const], index: u16) -> Option<usize>
+    ensures { result ≡ number_at names.now pool.now index }
+{
+    match class_named(pool, index) {
+        Some(name) => names.number_of(name),
+        None => None,
     }
 }
 

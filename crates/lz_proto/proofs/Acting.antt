@@ -4,16 +4,16 @@ use Rattle.std.proofs.lemmas.Bool.{ltb-true}
 use Rattle.lz_proto.specs.declared.state.State.{State}
 use Rattle.lz_proto.specs.declared.state.State.TheVariants.{Empty, Evaluating, Waiting, Done}
 use Rattle.lz_proto.specs.declared.pos.Pos.{Pos}
-use Rattle.lz_proto.specs.declared.pos.Pos.TheVariants.{Idle, Look, Claim, Body, Store, Take, Swap, Open, Mark, Place, Sleep, Got, Failed, Cycle}
+use Rattle.lz_proto.specs.declared.pos.Pos.TheVariants.{Idle, Look, Claim, Body, Store, Take, Swap, Open, Mark, Install, Sleep, Got, Failed, Cycle}
 use Rattle.lz_proto.specs.declared.act.Act.{Act}
 use Rattle.lz_proto.specs.declared.act.Act.TheVariants.{Read, Return, Throw, Go}
 use Rattle.lz_proto.specs.Protocol.{Protocol, content, position, thread, is_open, named}
-use Rattle.lz_proto.specs.Steps.{Outcome, Moves, Waits, Refuses, result_of, ended, has_ended, goes, looked, claims, places, sleeps, stores, takes, swaps, next, read, finish, acted}
+use Rattle.lz_proto.specs.Steps.{Outcome, Moves, Waits, Refuses, result_of, ended, has_ended, goes, looked, claims, installs, sleeps, stores, takes, swaps, next, read, finish, acted}
 use Rattle.lz_proto.specs.Once.{is_inside}
 use Rattle.lz_proto.specs.Kept.{Stage, Set, is_over, IsShared, IsLatched, Keeps, IsIdle, IsRun, Holds, IsHeld}
 use Rattle.lz_proto.proofs.Kept.{is_opening, goes_keeps}
 use Rattle.lz_proto.proofs.Writing.{claims_keep, stores_keep, swaps_keep}
-use Rattle.lz_proto.proofs.Latches.{made, made_for, marks_keep, places_keep, opens_keep}
+use Rattle.lz_proto.proofs.Latches.{made, made_for, marks_keep, installs_keep, opens_keep}
 
 abbrev pub number : Outcome → ℕ
 number (Moves q) = 0
@@ -46,7 +46,7 @@ rests_closed (Take c r) e = refl
 rests_closed (Swap c r latch) e = refl
 rests_closed (Open latch r) e = absurd (true≢false (sym e))
 rests_closed (Mark c t) e = refl
-rests_closed (Place c latch) e = refl
+rests_closed (Install c latch) e = refl
 rests_closed (Sleep c latch) e = refl
 rests_closed (Got v) e = refl
 rests_closed Failed e = refl
@@ -62,7 +62,7 @@ rests_outside (Take d r) e c = absurd (true≢false (sym e))
 rests_outside (Swap d r latch) e c = absurd (true≢false (sym e))
 rests_outside (Open latch r) e c = refl
 rests_outside (Mark d t) e c = refl
-rests_outside (Place d latch) e c = refl
+rests_outside (Install d latch) e c = refl
 rests_outside (Sleep d latch) e c = refl
 rests_outside (Got v) e c = refl
 rests_outside Failed e c = refl
@@ -112,7 +112,7 @@ module _ (p : Protocol) (stage : ℕ → Stage) (h : Holds p stage) (who : ℕ) 
   finish_keeps (Swap c s latch) r at = refuses
   finish_keeps (Open latch s) r at = refuses
   finish_keeps (Mark c t) r at = refuses
-  finish_keeps (Place c latch) r at = refuses
+  finish_keeps (Install c latch) r at = refuses
   finish_keeps (Sleep c latch) r at = refuses
   finish_keeps (Got v) r at = refuses
   finish_keeps Failed r at = refuses
@@ -141,15 +141,15 @@ module _ (p : Protocol) (stage : ℕ → Stage) (h : Holds p stage) (who : ℕ) 
   claim_keeps c at (Waiting latch) is = goes_on (Claim c) (Look c) at refl (λ d. refl) (relied (Claim c) at)
   claim_keeps c at (Done v) is = goes_on (Claim c) (Look c) at refl (λ d. refl) (relied (Claim c) at)
 
-  pub place_keeps : (c latch : ℕ) → position p who ≡ Place c latch → (s : State) → content p c ≡ s → Kept (places p who c latch s)
-  place_keeps c latch at (Evaluating t) is = go (nat_eq t (named p latch)) refl
+  pub install_keeps : (c latch : ℕ) → position p who ≡ Install c latch → (s : State) → content p c ≡ s → Kept (installs p who c latch s)
+  install_keeps c latch at (Evaluating t) is = go (nat_eq t (named p latch)) refl
     where
       go : (b : Bool) → nat_eq t (named p latch) ≡ b → Kept (if b then Moves (record p { cells = slice_set p.cells c (Waiting latch); at = slice_set p.at who (Look c) }) else goes p who (Look c))
-      go true e = λ q m. subst IsHeld (moves_same m) (_, places_keep p stage h who within c latch t at is (eqb-true t (named p latch) e))
-      go false e = goes_on (Place c latch) (Look c) at refl (λ d. refl) (relied (Place c latch) at).0
-  place_keeps c latch at Empty is = goes_on (Place c latch) (Look c) at refl (λ d. refl) (relied (Place c latch) at).0
-  place_keeps c latch at (Waiting other) is = goes_on (Place c latch) (Look c) at refl (λ d. refl) (relied (Place c latch) at).0
-  place_keeps c latch at (Done v) is = goes_on (Place c latch) (Look c) at refl (λ d. refl) (relied (Place c latch) at).0
+      go true e = λ q m. subst IsHeld (moves_same m) (_, installs_keep p stage h who within c latch t at is (eqb-true t (named p latch) e))
+      go false e = goes_on (Install c latch) (Look c) at refl (λ d. refl) (relied (Install c latch) at).0
+  install_keeps c latch at Empty is = goes_on (Install c latch) (Look c) at refl (λ d. refl) (relied (Install c latch) at).0
+  install_keeps c latch at (Waiting other) is = goes_on (Install c latch) (Look c) at refl (λ d. refl) (relied (Install c latch) at).0
+  install_keeps c latch at (Done v) is = goes_on (Install c latch) (Look c) at refl (λ d. refl) (relied (Install c latch) at).0
 
   pub sleep_keeps : (c latch : ℕ) → position p who ≡ Sleep c latch → (b : Bool) → Kept (sleeps p who c b)
   sleep_keeps c latch at true = goes_on (Sleep c latch) (Look c) at refl (λ d. refl) (relied (Sleep c latch) at).0
@@ -205,7 +205,7 @@ module _ (p : Protocol) (stage : ℕ → Stage) (h : Holds p stage) (who : ℕ) 
   next_keeps (Swap c r latch) at = swap_keeps c r latch at (content p c) refl
   next_keeps (Open latch r) at = λ q e. subst IsHeld (moves_same e) (_, opens_keep p stage h who within latch r at (λ cells n stage. ended_keeps r cells n stage who))
   next_keeps (Mark c t) at = mark_keeps c t at (nat_lt 0 p.spare)
-  next_keeps (Place c latch) at = place_keeps c latch at (content p c) refl
+  next_keeps (Install c latch) at = install_keeps c latch at (content p c) refl
   next_keeps (Sleep c latch) at = sleep_keeps c latch at (is_open p latch)
   next_keeps Idle at = refuses
   next_keeps (Body c) at = refuses

@@ -3,7 +3,7 @@ use Rattle.std.proofs.Common.{◌≡◌, ℕ, length, Bool, true, false, nat_eq,
 use Rattle.lz_proto.specs.declared.state.State.{State}
 use Rattle.lz_proto.specs.declared.state.State.TheVariants.{Empty, Evaluating, Waiting, Done}
 use Rattle.lz_proto.specs.declared.pos.Pos.{Pos}
-use Rattle.lz_proto.specs.declared.pos.Pos.TheVariants.{Idle, Look, Claim, Body, Store, Take, Swap, Open, Mark, Place, Sleep, Got, Failed, Cycle}
+use Rattle.lz_proto.specs.declared.pos.Pos.TheVariants.{Idle, Look, Claim, Body, Store, Take, Swap, Open, Mark, Install, Sleep, Got, Failed, Cycle}
 use Rattle.lz_proto.specs.declared.once.Once.{Once}
 use Rattle.lz_proto.specs.declared.once.Once.TheVariants as once
 use Rattle.lz_proto.specs.declared.act.Act.TheVariants.{Go}
@@ -87,7 +87,7 @@ module _ (p : Protocol) (stage : ℕ → Stage) (h : Holds p stage) where
   inside_goes c u (Claim d) at inside = absurd (true≢false (sym inside))
   inside_goes c u (Open latch r) at inside = absurd (true≢false (sym inside))
   inside_goes c u (Mark d t) at inside = absurd (true≢false (sym inside))
-  inside_goes c u (Place d latch) at inside = absurd (true≢false (sym inside))
+  inside_goes c u (Install d latch) at inside = absurd (true≢false (sym inside))
   inside_goes c u (Sleep d latch) at inside = absurd (true≢false (sym inside))
   inside_goes c u (Got v) at inside = absurd (true≢false (sym inside))
   inside_goes c u Failed at inside = absurd (true≢false (sym inside))

@@ -5,7 +5,7 @@ use Rattle.runs.proofs.Putting.{same_or_not, everywhere}
 use Rattle.lz_proto.specs.declared.state.State.{State}
 use Rattle.lz_proto.specs.declared.state.State.TheVariants.{Empty, Evaluating, Waiting, Done}
 use Rattle.lz_proto.specs.declared.pos.Pos.{Pos}
-use Rattle.lz_proto.specs.declared.pos.Pos.TheVariants.{Idle, Look, Claim, Body, Store, Take, Swap, Open, Mark, Place, Sleep, Got, Failed, Cycle}
+use Rattle.lz_proto.specs.declared.pos.Pos.TheVariants.{Idle, Look, Claim, Body, Store, Take, Swap, Open, Mark, Install, Sleep, Got, Failed, Cycle}
 use Rattle.lz_proto.specs.Protocol.{Protocol, content, position, thread, named}
 use Rattle.lz_proto.specs.Once.{is_inside}
 use Rattle.lz_proto.specs.Kept.{Stage, Mine, Set, Going, IsShared, IsLatched, Keeps, IsRun, Holds}
@@ -29,7 +29,7 @@ keeps_moves cells cells' made made' stage stage' u (Swap c r latch) n m same min
     (subst (λ i. c < i) n k.0, same c (eq-eqb c c refl) (subst IsLatched (sym k.1) tt) ∙ k.1)
 keeps_moves cells cells' made made' stage stage' u (Open latch r) n m same mine shared going k = going latch k
 keeps_moves cells cells' made made' stage stage' u (Mark c t) n m same mine shared going k = omega arith
-keeps_moves cells cells' made made' stage stage' u (Place c latch) n m same mine shared going k =
+keeps_moves cells cells' made made' stage stage' u (Install c latch) n m same mine shared going k =
     (subst (λ i. c < i) n k.0, mine latch k.1)
 keeps_moves cells cells' made made' stage stage' u (Sleep c latch) n m same mine shared going k =
     let here : latch < made = k.1 in

@@ -1,4 +1,4 @@
--- Latches that are made, placed and opened keep what every state keeps.
+-- Latches that are made, installed and opened keep what every state keeps.
 use Rattle.std.proofs.Common.{◌≡◌, ◌≢◌, ℕ, ◌<◌, ◌≤◌, ◌+◌, ◌-◌, List, [], ◌∷◌, ◌++◌, length, get_or, slice_set, Bool, true, false, ◌⊎◌, inl, inr, Option, sym, ap, subst, refl, ◌∙◌, arith, true≢false}
 use Rattle.std.proofs.lemmas.List.{length-set, length-append, get_or_past, get_or_append_left}
 use Rattle.std.proofs.Math.Seq.{get_or-append_seam}
@@ -7,7 +7,7 @@ use Rattle.runs.proofs.Putting.{put-same, put-other, same_or_not, each, everywhe
 use Rattle.lz_proto.specs.declared.state.State.{State}
 use Rattle.lz_proto.specs.declared.state.State.TheVariants.{Empty, Evaluating, Waiting}
 use Rattle.lz_proto.specs.declared.pos.Pos.{Pos}
-use Rattle.lz_proto.specs.declared.pos.Pos.TheVariants.{Idle, Look, Open, Mark, Place}
+use Rattle.lz_proto.specs.declared.pos.Pos.TheVariants.{Idle, Look, Open, Mark, Install}
 use Rattle.lz_proto.specs.Protocol.{Protocol, content, position, is_open, named}
 use Rattle.lz_proto.specs.Steps.{ended}
 use Rattle.lz_proto.specs.Kept.{Stage, Mine, Set, Going, Over, is_over, IsShared, IsLatched, Keeps, IsRunBy, IsRun, Holds}
@@ -15,7 +15,7 @@ use Rattle.lz_proto.proofs.Lists.{each_item}
 use Rattle.lz_proto.proofs.Kept.{keeps_moves, run_moves, inside_same, moved_other, still_going, others_keep, all_run, written_there, written_other}
 use Rattle.lz_proto.proofs.Writing.{wrote, IsSet, waiting_same, set_same, going_same, mine_same, ended_outside}
 
--- a latch of an accessor that is about to place it, or to open it
+-- a latch of an accessor that is about to install it, or to open it
 abbrev pub IsMine : Stage → Type 0
 IsMine (Mine who) = Unit {0}
 IsMine other = ⊥
@@ -57,7 +57,7 @@ each_grown P xs x d at others =
 
 -- the state behind the making of a latch
 abbrev pub made_for : Protocol → ℕ → ℕ → ℕ → Protocol
-made_for p who c t = record p { opened = p.opened ++ false ∷ []; owner = p.owner ++ t ∷ []; at = slice_set p.at who (Place c (length p.opened)); spare = p.spare - 1 }
+made_for p who c t = record p { opened = p.opened ++ false ∷ []; owner = p.owner ++ t ∷ []; at = slice_set p.at who (Install c (length p.opened)); spare = p.spare - 1 }
 
 module _ (p : Protocol) (stage : ℕ → Stage) (h : Holds p stage) (who : ℕ) (within : who < length p.at) where
   -- a latch is made
@@ -78,7 +78,7 @@ module _ (p : Protocol) (stage : ℕ → Stage) (h : Holds p stage) (who : ℕ) 
       latch = length p.opened
 
       next : Pos
-      next = Place c latch
+      next = Install c latch
 
       stage' : ℕ → Stage
       stage' = put latch (Mine who) stage
@@ -123,8 +123,8 @@ module _ (p : Protocol) (stage : ℕ → Stage) (h : Holds p stage) (who : ℕ) 
       goes l u = each (λ l s. stage l ≡ Going u → s ≡ Going u) latch (Mine who) stage (λ e. absurd (subst IsOver e was_over)) (λ l ne e. e) l
 
   -- `Evaluating` is exchanged for the latch
-  pub places_keep : (c latch t : ℕ) → position p who ≡ Place c latch → content p c ≡ Evaluating t → t ≡ named p latch → Holds (wrote p who c (Waiting latch) (Look c)) (put latch (Set c) stage)
-  places_keep c latch t at was by = record {
+  pub installs_keep : (c latch t : ℕ) → position p who ≡ Install c latch → content p c ≡ Evaluating t → t ≡ named p latch → Holds (wrote p who c (Waiting latch) (Look c)) (put latch (Set c) stage)
+  installs_keep c latch t at was by = record {
     threads = h.threads ∙ sym (length-set p.at who (Look c));
     owners = h.owners;
     keeps = each_item (Keeps (slice_set p.cells c new) (length p.opened) stage') p.at who (Look c) Idle within (subst (λ n. c < n) (sym (length-set p.cells c new)) here) (others_keep p stage h who within q (Look c) at c here new stage' (λ u ne i l. subst IsLatched was l) (λ l u ne. mine l u ne) (λ l d. shared d l) (λ l u ne. goes l u));
@@ -137,7 +137,7 @@ module _ (p : Protocol) (stage : ℕ → Stage) (h : Holds p stage) (who : ℕ) 
   }
     where
       q : Pos
-      q = Place c latch
+      q = Install c latch
 
       new : State
       new = Waiting latch

@@ -1,4 +1,4 @@
--- What holds of each item of a list that is changed at one place.
+-- What holds of each item of a list of which one item changes.
 use Rattle.std.proofs.Common.{◌≢◌, ℕ, ◌<◌, List, length, get_or, slice_set, sym, subst}
 use Rattle.std.proofs.lemmas.List.{get_or-set_same, get_or-set_other}
 use Rattle.runs.proofs.Putting.{everywhere}

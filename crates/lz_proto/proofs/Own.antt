@@ -5,7 +5,7 @@ use Rattle.runs.proofs.Putting.{same_or_not}
 use Rattle.lz_proto.specs.declared.state.State.{State}
 use Rattle.lz_proto.specs.declared.state.State.TheVariants.{Empty, Evaluating, Waiting, Done}
 use Rattle.lz_proto.specs.declared.pos.Pos.{Pos}
-use Rattle.lz_proto.specs.declared.pos.Pos.TheVariants.{Look, Mark, Sleep, Cycle, Idle, Place}
+use Rattle.lz_proto.specs.declared.pos.Pos.TheVariants.{Look, Mark, Sleep, Cycle, Idle, Install}
 use Rattle.lz_proto.specs.declared.once.Once.{Once}
 use Rattle.lz_proto.specs.declared.once.Once.TheVariants as once
 use Rattle.lz_proto.specs.declared.act.Act.{Act}
@@ -157,5 +157,5 @@ pub makes_kept : (p : Protocol) → IsKept p → (who c t : ℕ) → who < lengt
 makes_kept p kept who c t within held = (
   held.0,
   held.1,
-  near_apart p kept who within (Place c (length p.opened)) refl (made_for p who c t) refl (λ u. refl) (λ latch made. get_or_append_left p.owner (t ∷ []) 0 latch (subst (λ n. latch < n) (sym kept.1.owners) made)),
+  near_apart p kept who within (Install c (length p.opened)) refl (made_for p who c t) refl (λ u. refl) (λ latch made. get_or_append_left p.owner (t ∷ []) 0 latch (subst (λ n. latch < n) (sym kept.1.owners) made)),
 )

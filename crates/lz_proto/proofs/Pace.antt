@@ -5,7 +5,7 @@ use Rattle.runs.proofs.Putting.{same_or_not}
 use Rattle.lz_proto.specs.declared.state.State.{State}
 use Rattle.lz_proto.specs.declared.state.State.TheVariants.{Evaluating, Waiting}
 use Rattle.lz_proto.specs.declared.pos.Pos.{Pos}
-use Rattle.lz_proto.specs.declared.pos.Pos.TheVariants.{Idle, Look, Claim, Body, Store, Take, Swap, Open, Mark, Place, Sleep, Got, Failed, Cycle}
+use Rattle.lz_proto.specs.declared.pos.Pos.TheVariants.{Idle, Look, Claim, Body, Store, Take, Swap, Open, Mark, Install, Sleep, Got, Failed, Cycle}
 use Rattle.lz_proto.specs.declared.once.Once.{Once}
 use Rattle.lz_proto.specs.declared.once.Once.TheVariants as once
 use Rattle.lz_proto.specs.declared.act.Act.{Act}
@@ -20,39 +20,39 @@ use Rattle.lz_proto.proofs.Acting.{moves_same, unmoved}
 use Rattle.lz_proto.proofs.Own.{step_keeps}
 use Rattle.lz_proto.proofs.Standing.{others_stand, as_many, names_stay}
 use Rattle.lz_proto.proofs.Serving.{Serves, own_serves, other_serves, got_is_done}
-use Rattle.lz_proto.proofs.Pacing.{rank, rank_small, own_falls, Kin, same, placed, changed, act_kin}
+use Rattle.lz_proto.proofs.Pacing.{rank, rank_small, own_falls, Kin, same, installed, changed, act_kin}
 
--- a latch in the place of `Evaluating` ranks no position higher
-mark_placed : (b : Bool) → 3 ≤ (if b then 3 else 6)
-mark_placed true = omega arith
-mark_placed false = omega arith
+-- a latch instead of `Evaluating` ranks no position higher
+mark_installed : (b : Bool) → 3 ≤ (if b then 3 else 6)
+mark_installed true = omega arith
+mark_installed false = omega arith
 
-place_placed : (b : Bool) → 2 ≤ (if b then 2 else 5)
-place_placed true = omega arith
-place_placed false = omega arith
+install_installed : (b : Bool) → 2 ≤ (if b then 2 else 5)
+install_installed true = omega arith
+install_installed false = omega arith
 
-sleep_placed : (b : Bool) → (if b then 0 else 2) ≤ 5
-sleep_placed true = omega arith
-sleep_placed false = omega arith
+sleep_installed : (b : Bool) → (if b then 0 else 2) ≤ 5
+sleep_installed true = omega arith
+sleep_installed false = omega arith
 
-placed_lower : (p q : Protocol) (t latch : ℕ) (pos : Pos) → rank q (Waiting latch) pos ≤ rank p (Evaluating t) pos
-placed_lower p q t latch Idle = omega arith
-placed_lower p q t latch (Look d) = omega arith
-placed_lower p q t latch (Claim d) = omega arith
-placed_lower p q t latch (Body d) = omega arith
-placed_lower p q t latch (Store d r) = omega arith
-placed_lower p q t latch (Take d r) = omega arith
-placed_lower p q t latch (Swap d r l) = omega arith
-placed_lower p q t latch (Open l r) = omega arith
-placed_lower p q t latch (Mark d u) = mark_placed (nat_eq t u)
-placed_lower p q t latch (Place d l) = place_placed (nat_eq t (named p l))
-placed_lower p q t latch (Sleep d l) = sleep_placed (nat_eq latch l)
-placed_lower p q t latch (Got v) = omega arith
-placed_lower p q t latch Failed = omega arith
-placed_lower p q t latch Cycle = omega arith
+installed_lower : (p q : Protocol) (t latch : ℕ) (pos : Pos) → rank q (Waiting latch) pos ≤ rank p (Evaluating t) pos
+installed_lower p q t latch Idle = omega arith
+installed_lower p q t latch (Look d) = omega arith
+installed_lower p q t latch (Claim d) = omega arith
+installed_lower p q t latch (Body d) = omega arith
+installed_lower p q t latch (Store d r) = omega arith
+installed_lower p q t latch (Take d r) = omega arith
+installed_lower p q t latch (Swap d r l) = omega arith
+installed_lower p q t latch (Open l r) = omega arith
+installed_lower p q t latch (Mark d u) = mark_installed (nat_eq t u)
+installed_lower p q t latch (Install d l) = install_installed (nat_eq t (named p l))
+installed_lower p q t latch (Sleep d l) = sleep_installed (nat_eq latch l)
+installed_lower p q t latch (Got v) = omega arith
+installed_lower p q t latch Failed = omega arith
+installed_lower p q t latch Cycle = omega arith
 
 -- an accessor ranks the same where its latch names the same thread
-same_rank : (p q : Protocol) (s : State) (pos : Pos) → ((d latch : ℕ) → pos ≡ Place d latch → named q latch ≡ named p latch) → rank q s pos ≤ rank p s pos
+same_rank : (p q : Protocol) (s : State) (pos : Pos) → ((d latch : ℕ) → pos ≡ Install d latch → named q latch ≡ named p latch) → rank q s pos ≤ rank p s pos
 same_rank p q s Idle names = omega arith
 same_rank p q s (Look d) names = omega arith
 same_rank p q s (Claim d) names = omega arith
@@ -62,7 +62,7 @@ same_rank p q s (Take d r) names = omega arith
 same_rank p q s (Swap d r l) names = omega arith
 same_rank p q s (Open l r) names = omega arith
 same_rank p q s (Mark d u) names = omega arith
-same_rank p q s (Place d l) names = rw (names d l refl) (omega arith)
+same_rank p q s (Install d l) names = rw (names d l refl) (omega arith)
 same_rank p q s (Sleep d l) names = omega arith
 same_rank p q s (Got v) names = omega arith
 same_rank p q s Failed names = omega arith
@@ -98,7 +98,7 @@ module _ (p : Protocol) (kept : IsKept p) (a : ℕ × Act) (there : a.0 < length
       stands : position q who ≡ position p who
       stands = others_stand p a.0 a.1 q moved who (λ e. ne (sym e))
 
-      names : (d latch : ℕ) → position p who ≡ Place d latch → named q latch ≡ named p latch
+      names : (d latch : ℕ) → position p who ≡ Install d latch → named q latch ≡ named p latch
       names d latch at =
           let mine : stage_of latch ≡ Mine who = (subst (Keeps p.cells (length p.opened) kept.0 who) at (kept.1.keeps who)).1 in
           let within : latch < length p.opened = made p.opened latch (kept.1.over latch ∙ ap is_over mine) in
@@ -111,7 +111,7 @@ module _ (p : Protocol) (kept : IsKept p) (a : ℕ × Act) (there : a.0 < length
       go (inr one) k = rw one (let small : rank q (content q c) (position q who) ≤ 9 = rank_small q (content q c) (position q who) in omega arith)
       go (inl e) (changed ne) = absurd (ne (sym e))
       go (inl e) (same is) = rw (stands, is) (let low : rank q (content p c) (position p who) ≤ rank p (content p c) (position p who) = same_rank p q (content p c) (position p who) names in omega arith)
-      go (inl e) (placed t latch was is) = rw (stands, was, is) (let low : rank q (Waiting latch) (position p who) ≤ rank p (Evaluating t) (position p who) = placed_lower p q t latch (position p who) in omega arith)
+      go (inl e) (installed t latch was is) = rw (stands, was, is) (let low : rank q (Waiting latch) (position p who) ≤ rank p (Evaluating t) (position p who) = installed_lower p q t latch (position p who) in omega arith)
 
   -- its own step ranks lower
   own_rank : (a.0 ≡ who) → (IsOneRead (length p.at) who (a ∷ [])) → Serves c (abstract_of p c) (task (position p who)) → rank q (content q c) (position q who) < rank p (content p c) (position p who)

@@ -5,11 +5,11 @@ use Rattle.runs.proofs.Putting.{same_or_not}
 use Rattle.lz_proto.specs.declared.state.State.{State}
 use Rattle.lz_proto.specs.declared.state.State.TheVariants.{Empty, Evaluating, Waiting, Done}
 use Rattle.lz_proto.specs.declared.pos.Pos.{Pos}
-use Rattle.lz_proto.specs.declared.pos.Pos.TheVariants.{Idle, Look, Claim, Body, Store, Take, Swap, Open, Mark, Place, Sleep, Got, Failed, Cycle}
+use Rattle.lz_proto.specs.declared.pos.Pos.TheVariants.{Idle, Look, Claim, Body, Store, Take, Swap, Open, Mark, Install, Sleep, Got, Failed, Cycle}
 use Rattle.lz_proto.specs.declared.act.Act.{Act}
 use Rattle.lz_proto.specs.declared.act.Act.TheVariants.{Read, Return, Throw, Go}
 use Rattle.lz_proto.specs.Protocol.{Protocol, content, position, thread, is_open, named}
-use Rattle.lz_proto.specs.Steps.{Outcome, Moves, Waits, Refuses, result_of, ended, has_ended, goes, looked, claims, places, sleeps, stores, takes, swaps, next, finish, acted}
+use Rattle.lz_proto.specs.Steps.{Outcome, Moves, Waits, Refuses, result_of, ended, has_ended, goes, looked, claims, installs, sleeps, stores, takes, swaps, next, finish, acted}
 use Rattle.lz_proto.specs.declared.once.Once.{Once}
 use Rattle.lz_proto.specs.declared.once.Once.TheVariants as once
 use Rattle.lz_proto.specs.Once.{abstract_of, once_of, task}
@@ -31,14 +31,14 @@ abbrev pub from_claim : State → ℕ
 from_claim Empty = 6
 from_claim other = from_look other + 1
 
--- a latch for the thread that runs now is placed, one for another isn't
+-- a latch for the thread that runs now is installed, one for another isn't
 abbrev pub from_mark : ℕ → State → ℕ
 from_mark t (Evaluating u) = if nat_eq u t then 3 else 6
 from_mark t other = from_look other + 2
 
-abbrev pub from_place : ℕ → State → ℕ
-from_place t (Evaluating u) = if nat_eq u t then 2 else 5
-from_place t other = from_look other + 1
+abbrev pub from_install : ℕ → State → ℕ
+from_install t (Evaluating u) = if nat_eq u t then 2 else 5
+from_install t other = from_look other + 1
 
 abbrev pub from_sleep : ℕ → State → ℕ
 from_sleep latch (Waiting other) = if nat_eq other latch then 0 else 2
@@ -54,7 +54,7 @@ rank p s (Take c r) = 3
 rank p s (Swap c r latch) = 2
 rank p s (Open latch r) = 1
 rank p s (Mark c t) = from_mark t s
-rank p s (Place c latch) = from_place (named p latch) s
+rank p s (Install c latch) = from_install (named p latch) s
 rank p s (Sleep c latch) = from_sleep latch s
 rank p s (Got v) = 0
 rank p s Failed = 0
@@ -82,11 +82,11 @@ mark_small t Empty = omega arith
 mark_small t (Waiting latch) = omega arith
 mark_small t (Done v) = omega arith
 
-place_small : (t : ℕ) (s : State) → from_place t s ≤ 9
-place_small t (Evaluating u) = if_small (nat_eq u t) 2 5 (omega arith) (omega arith)
-place_small t Empty = omega arith
-place_small t (Waiting latch) = omega arith
-place_small t (Done v) = omega arith
+install_small : (t : ℕ) (s : State) → from_install t s ≤ 9
+install_small t (Evaluating u) = if_small (nat_eq u t) 2 5 (omega arith) (omega arith)
+install_small t Empty = omega arith
+install_small t (Waiting latch) = omega arith
+install_small t (Done v) = omega arith
 
 sleep_small : (latch : ℕ) (s : State) → from_sleep latch s ≤ 9
 sleep_small latch (Waiting other) = if_small (nat_eq other latch) 0 2 (omega arith) (omega arith)
@@ -104,7 +104,7 @@ rank_small p s (Take c r) = omega arith
 rank_small p s (Swap c r latch) = omega arith
 rank_small p s (Open latch r) = omega arith
 rank_small p s (Mark c t) = mark_small t s
-rank_small p s (Place c latch) = place_small (named p latch) s
+rank_small p s (Install c latch) = install_small (named p latch) s
 rank_small p s (Sleep c latch) = sleep_small latch s
 rank_small p s (Got v) = omega arith
 rank_small p s Failed = omega arith
@@ -114,16 +114,16 @@ ended_rank : (p : Protocol) (s : State) (r : Option ℕ) → rank p s (ended r) 
 ended_rank p s (Some v) = refl
 ended_rank p s None = refl
 
--- marks and placements rank above what follows them
-mark_place : (t : ℕ) (s : State) → from_place t s < from_mark t s
-mark_place t (Evaluating u) = go (nat_eq u t)
+-- marks and installations rank above what follows them
+mark_install : (t : ℕ) (s : State) → from_install t s < from_mark t s
+mark_install t (Evaluating u) = go (nat_eq u t)
   where
     go : (b : Bool) → (if b then 2 else 5) < (if b then 3 else 6)
     go true = omega arith
     go false = omega arith
-mark_place t Empty = omega arith
-mark_place t (Waiting latch) = omega arith
-mark_place t (Done v) = omega arith
+mark_install t Empty = omega arith
+mark_install t (Waiting latch) = omega arith
+mark_install t (Done v) = omega arith
 
 claim_look : (s : State) → from_claim s < suc (from_claim s)
 claim_look s = omega arith
@@ -153,7 +153,7 @@ module _ (p : Protocol) (stage : ℕ → Stage) (h : Holds p stage) (who : ℕ) 
       same q' (Swap d r latch) l = l
       same q' (Open latch r) l = l
       same q' (Mark d t) l = l
-      same q' (Place d latch) l = l
+      same q' (Install d latch) l = l
       same q' (Sleep d latch) l = l
       same q' (Got v) l = l
       same q' Failed l = l
@@ -176,7 +176,7 @@ module _ (p : Protocol) (stage : ℕ → Stage) (h : Holds p stage) (who : ℕ) 
   finish_falls (Swap d s latch) r at = refuses
   finish_falls (Open latch s) r at = refuses
   finish_falls (Mark d t) r at = refuses
-  finish_falls (Place d latch) r at = refuses
+  finish_falls (Install d latch) r at = refuses
   finish_falls (Sleep d latch) r at = refuses
   finish_falls (Got v) r at = refuses
   finish_falls Failed r at = refuses
@@ -239,22 +239,22 @@ module _ (p : Protocol) (stage : ℕ → Stage) (h : Holds p stage) (who : ℕ) 
   mark_falls d t at true = λ q m.
       subst (λ q. rank q (content q c) (position q who) < from_mark t (content p c)) (moves_same m)
       (let names : get_or (p.owner ++ t ∷ []) (length p.opened) 0 ≡ t = subst (λ n. get_or (p.owner ++ t ∷ []) n 0 ≡ t) h.owners (get_or-append_seam p.owner t [] 0) in
-      rw (moved_there p stage h who within (Mark d t) (Place d (length p.opened)) at, names) (mark_place t (content p c)))
+      rw (moved_there p stage h who within (Mark d t) (Install d (length p.opened)) at, names) (mark_install t (content p c)))
 
-  place_falls : (d latch : ℕ) → d ≡ c → position p who ≡ Place d latch → (s : State) → content p c ≡ s → Falls (from_place (named p latch) s) (places p who d latch s)
-  place_falls d latch e at (Evaluating t) is = go (nat_eq t (named p latch))
+  install_falls : (d latch : ℕ) → d ≡ c → position p who ≡ Install d latch → (s : State) → content p c ≡ s → Falls (from_install (named p latch) s) (installs p who d latch s)
+  install_falls d latch e at (Evaluating t) is = go (nat_eq t (named p latch))
     where
       here : c < length p.cells
-      here = subst (λ d. d < length p.cells) e (relied p stage h who within (Place d latch) at).0
+      here = subst (λ d. d < length p.cells) e (relied p stage h who within (Install d latch) at).0
 
       go : (b : Bool) → Falls (if b then 2 else 5) (if b then Moves (record p { cells = slice_set p.cells d (Waiting latch); at = slice_set p.at who (Look d) }) else goes p who (Look d))
       go true q m =
           subst (λ q. rank q (content q c) (position q who) < 2) (moves_same m)
-          (rw (e, moved_there p stage h who within (Place c latch) (Look c) (at ∙ ap (λ d. Place d latch) e), written_there p stage h who within (Place c latch) (Look c) (at ∙ ap (λ d. Place d latch) e) c here (Waiting latch)) (omega arith))
-      go false q m = goes_falls (Place d latch) (Look d) 5 at (rw is (omega arith)) q m
-  place_falls d latch e at Empty is = goes_falls (Place d latch) (Look d) 8 at (rw is (omega arith))
-  place_falls d latch e at (Waiting other) is = goes_falls (Place d latch) (Look d) 2 at (rw is (omega arith))
-  place_falls d latch e at (Done v) is = goes_falls (Place d latch) (Look d) 2 at (rw is (omega arith))
+          (rw (e, moved_there p stage h who within (Install c latch) (Look c) (at ∙ ap (λ d. Install d latch) e), written_there p stage h who within (Install c latch) (Look c) (at ∙ ap (λ d. Install d latch) e) c here (Waiting latch)) (omega arith))
+      go false q m = goes_falls (Install d latch) (Look d) 5 at (rw is (omega arith)) q m
+  install_falls d latch e at Empty is = goes_falls (Install d latch) (Look d) 8 at (rw is (omega arith))
+  install_falls d latch e at (Waiting other) is = goes_falls (Install d latch) (Look d) 2 at (rw is (omega arith))
+  install_falls d latch e at (Done v) is = goes_falls (Install d latch) (Look d) 2 at (rw is (omega arith))
 
   sleep_falls : (d latch : ℕ) → position p who ≡ Sleep d latch → (s : State) → content p c ≡ s → (b : Bool) → is_open p latch ≡ b → Falls (from_sleep latch s) (sleeps p who d b)
   sleep_falls d latch at s is false o = λ q m. absurd (unmoved Waits q (omega arith) m)
@@ -280,7 +280,7 @@ module _ (p : Protocol) (stage : ℕ → Stage) (h : Holds p stage) (who : ℕ) 
   next_falls (Swap d r latch) at e = swap_falls d r latch at (content p d)
   next_falls (Open latch r) at e = open_falls latch r at
   next_falls (Mark d t) at e = mark_falls d t at (nat_lt 0 p.spare)
-  next_falls (Place d latch) at e = at_cell (Place d latch) d e (place_falls d latch e at (content p d) (ap (content p) (sym e)))
+  next_falls (Install d latch) at e = at_cell (Install d latch) d e (install_falls d latch e at (content p d) (ap (content p) (sym e)))
   next_falls (Sleep d latch) at e = at_cell (Sleep d latch) d e (sleep_falls d latch at (content p d) (ap (content p) (sym e)) (is_open p latch) refl)
   next_falls Idle at e = refuses
   next_falls (Body d) at e = refuses
@@ -294,10 +294,10 @@ module _ (p : Protocol) (stage : ℕ → Stage) (h : Holds p stage) (who : ℕ) 
   own_falls Throw unread e = finish_falls (position p who) None refl
   own_falls Go unread e = next_falls (position p who) refl e
 
--- what another's step does to a cell that stays what it is to its readers: nothing, or a latch takes the place of `Evaluating`
+-- what another's step does to a cell that stays what it is to its readers: nothing, or a latch instead of `Evaluating`
 pub data Kin (p q : Protocol) (c : ℕ) : Type 0 where
   same : content q c ≡ content p c → Kin p q c
-  placed : (t latch : ℕ) → content p c ≡ Evaluating t → content q c ≡ Waiting latch → Kin p q c
+  installed : (t latch : ℕ) → content p c ≡ Evaluating t → content q c ≡ Waiting latch → Kin p q c
   changed : (abstract_of q c ≡ abstract_of p c → ⊥) → Kin p q c
 
 abbrev IsRunning : Once → Type 0
@@ -364,15 +364,15 @@ module _ (p : Protocol) (stage : ℕ → Stage) (h : Holds p stage) (who : ℕ) 
   swaps_kin d r latch at (Evaluating t) is = refuses_kin
   swaps_kin d r latch at (Done v) is = refuses_kin
 
-  places_kin : (d latch : ℕ) → position p who ≡ Place d latch → (s : State) → content p d ≡ s → Kindred (places p who d latch s)
-  places_kin d latch at (Evaluating t) is = go (nat_eq t (named p latch))
+  installs_kin : (d latch : ℕ) → position p who ≡ Install d latch → (s : State) → content p d ≡ s → Kindred (installs p who d latch s)
+  installs_kin d latch at (Evaluating t) is = go (nat_eq t (named p latch))
     where
       go : (b : Bool) → Kindred (if b then Moves (record p { cells = slice_set p.cells d (Waiting latch); at = slice_set p.at who (Look d) }) else goes p who (Look d))
-      go true = writes_kin (Place d latch) (Look d) at d (relied p stage h who within (Place d latch) at).0 (Waiting latch) (λ e written. placed t latch (ap (content p) (sym e) ∙ is) written)
+      go true = writes_kin (Install d latch) (Look d) at d (relied p stage h who within (Install d latch) at).0 (Waiting latch) (λ e written. installed t latch (ap (content p) (sym e) ∙ is) written)
       go false = goes_kin (Look d)
-  places_kin d latch at Empty is = goes_kin (Look d)
-  places_kin d latch at (Waiting other) is = goes_kin (Look d)
-  places_kin d latch at (Done v) is = goes_kin (Look d)
+  installs_kin d latch at Empty is = goes_kin (Look d)
+  installs_kin d latch at (Waiting other) is = goes_kin (Look d)
+  installs_kin d latch at (Done v) is = goes_kin (Look d)
 
   sleeps_kin : (d : ℕ) (b : Bool) → Kindred (sleeps p who d b)
   sleeps_kin d true = goes_kin (Look d)
@@ -390,7 +390,7 @@ module _ (p : Protocol) (stage : ℕ → Stage) (h : Holds p stage) (who : ℕ) 
   next_kin (Swap d r latch) at = swaps_kin d r latch at (content p d) refl
   next_kin (Open latch r) at = λ q m. subst (λ q. Kin p q c) (moves_same m) (same refl)
   next_kin (Mark d t) at = marks_kin d t (nat_lt 0 p.spare)
-  next_kin (Place d latch) at = places_kin d latch at (content p d) refl
+  next_kin (Install d latch) at = installs_kin d latch at (content p d) refl
   next_kin (Sleep d latch) at = sleeps_kin d (is_open p latch)
   next_kin Idle at = refuses_kin
   next_kin (Body d) at = refuses_kin
@@ -408,7 +408,7 @@ module _ (p : Protocol) (stage : ℕ → Stage) (h : Holds p stage) (who : ℕ) 
   finish_kin (Swap d s latch) r = refuses_kin
   finish_kin (Open latch s) r = refuses_kin
   finish_kin (Mark d t) r = refuses_kin
-  finish_kin (Place d latch) r = refuses_kin
+  finish_kin (Install d latch) r = refuses_kin
   finish_kin (Sleep d latch) r = refuses_kin
   finish_kin (Got v) r = refuses_kin
   finish_kin Failed r = refuses_kin

@@ -4,11 +4,11 @@ use Rattle.std.proofs.lemmas.Bool.{ltb-true}
 use Rattle.lz_proto.specs.declared.state.State.{State}
 use Rattle.lz_proto.specs.declared.state.State.TheVariants.{Empty, Evaluating, Waiting, Done}
 use Rattle.lz_proto.specs.declared.pos.Pos.{Pos}
-use Rattle.lz_proto.specs.declared.pos.Pos.TheVariants.{Idle, Look, Claim, Body, Store, Take, Swap, Open, Mark, Place, Sleep, Got, Failed, Cycle}
+use Rattle.lz_proto.specs.declared.pos.Pos.TheVariants.{Idle, Look, Claim, Body, Store, Take, Swap, Open, Mark, Install, Sleep, Got, Failed, Cycle}
 use Rattle.lz_proto.specs.declared.act.Act.{Act}
 use Rattle.lz_proto.specs.declared.act.Act.TheVariants.{Read, Return, Throw, Go}
 use Rattle.lz_proto.specs.Protocol.{Protocol, content, position, thread, is_open, named}
-use Rattle.lz_proto.specs.Steps.{Outcome, Moves, Refuses, has_ended, goes, marks, claims, places, sleeps, stores, takes, swaps, next, read, finish, acted}
+use Rattle.lz_proto.specs.Steps.{Outcome, Moves, Refuses, has_ended, goes, marks, claims, installs, sleeps, stores, takes, swaps, next, read, finish, acted}
 use Rattle.lz_proto.specs.Kept.{Stage, IsLatched, Keeps, Holds}
 use Rattle.lz_proto.specs.Causes.{is_in_body, IsWrong, IsFull}
 use Rattle.lz_proto.proofs.Latches.{made_for}
@@ -33,11 +33,11 @@ module _ (p : Protocol) (who : ℕ) where
   claims_made c (Waiting latch) = omega arith
   claims_made c (Done v) = omega arith
 
-  places_made : (c latch : ℕ) (s : State) → number (places p who c latch s) ≢ 2
-  places_made c latch (Evaluating t) = if_made (nat_eq t (named p latch)) _ _ (omega arith) (omega arith)
-  places_made c latch Empty = omega arith
-  places_made c latch (Waiting other) = omega arith
-  places_made c latch (Done v) = omega arith
+  installs_made : (c latch : ℕ) (s : State) → number (installs p who c latch s) ≢ 2
+  installs_made c latch (Evaluating t) = if_made (nat_eq t (named p latch)) _ _ (omega arith) (omega arith)
+  installs_made c latch Empty = omega arith
+  installs_made c latch (Waiting other) = omega arith
+  installs_made c latch (Done v) = omega arith
 
   stores_made : (c : ℕ) (r : Option ℕ) (s : State) → number (stores p who c r s) ≢ 2
   stores_made c r (Evaluating t) = if_made (nat_eq t (thread p who)) _ _ (omega arith) (omega arith)
@@ -78,7 +78,7 @@ module _ (p : Protocol) (stage : ℕ → Stage) (h : Holds p stage) (who : ℕ) 
       made (swaps p who c r latch (content p c)) (subst (λ s. number (swaps p who c r latch s) ≢ 2) (sym (subst (Keeps p.cells (length p.opened) stage who) at (h.keeps who)).1) (swaps_made p who c r latch)) e
   next_refused (Open latch r) at e = made (next p who (Open latch r)) (omega arith) e
   next_refused (Mark c t) at e = marks_refused p who c t e
-  next_refused (Place c latch) at e = made (places p who c latch (content p c)) (places_made p who c latch (content p c)) e
+  next_refused (Install c latch) at e = made (installs p who c latch (content p c)) (installs_made p who c latch (content p c)) e
   next_refused (Sleep c latch) at e = made (sleeps p who c (is_open p latch)) (sleeps_made p who c (is_open p latch)) e
   next_refused Idle at e = inl (inl refl)
   next_refused (Body c) at e = inl (inr refl)
@@ -96,7 +96,7 @@ module _ (p : Protocol) (stage : ℕ → Stage) (h : Holds p stage) (who : ℕ) 
   finish_refused (Swap c s latch) r e = refl
   finish_refused (Open latch s) r e = refl
   finish_refused (Mark c t) r e = refl
-  finish_refused (Place c latch) r e = refl
+  finish_refused (Install c latch) r e = refl
   finish_refused (Sleep c latch) r e = refl
   finish_refused (Got v) r e = refl
   finish_refused Failed r e = refl
@@ -134,7 +134,7 @@ module _ (p : Protocol) (who : ℕ) where
   finish_wrong (Swap c s latch) r e = refl
   finish_wrong (Open latch s) r e = refl
   finish_wrong (Mark c t) r e = refl
-  finish_wrong (Place c latch) r e = refl
+  finish_wrong (Install c latch) r e = refl
   finish_wrong (Sleep c latch) r e = refl
   finish_wrong (Got v) r e = refl
   finish_wrong Failed r e = refl
@@ -150,7 +150,7 @@ module _ (p : Protocol) (who : ℕ) where
   next_ended (Swap c r latch) e = absurd (true≢false (sym e))
   next_ended (Open latch r) e = absurd (true≢false (sym e))
   next_ended (Mark c t) e = absurd (true≢false (sym e))
-  next_ended (Place c latch) e = absurd (true≢false (sym e))
+  next_ended (Install c latch) e = absurd (true≢false (sym e))
   next_ended (Sleep c latch) e = absurd (true≢false (sym e))
   next_ended (Got v) e = refl
   next_ended Failed e = refl
@@ -166,7 +166,7 @@ module _ (p : Protocol) (who : ℕ) where
   next_body (Swap c r latch) e = absurd (true≢false (sym e))
   next_body (Open latch r) e = absurd (true≢false (sym e))
   next_body (Mark c t) e = absurd (true≢false (sym e))
-  next_body (Place c latch) e = absurd (true≢false (sym e))
+  next_body (Install c latch) e = absurd (true≢false (sym e))
   next_body (Sleep c latch) e = absurd (true≢false (sym e))
   next_body (Got v) e = absurd (true≢false (sym e))
   next_body Failed e = absurd (true≢false (sym e))

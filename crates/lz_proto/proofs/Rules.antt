@@ -3,13 +3,13 @@ use Rattle.std.proofs.Common.{◌≡◌, ◌≢◌, ℕ, ◌<◌, length, get_or
 use Rattle.lz_proto.specs.declared.state.State.{State}
 use Rattle.lz_proto.specs.declared.state.State.TheVariants.{Empty, Evaluating, Waiting, Done}
 use Rattle.lz_proto.specs.declared.pos.Pos.{Pos}
-use Rattle.lz_proto.specs.declared.pos.Pos.TheVariants.{Idle, Look, Claim, Body, Store, Take, Swap, Open, Mark, Place, Sleep, Got, Failed, Cycle}
+use Rattle.lz_proto.specs.declared.pos.Pos.TheVariants.{Idle, Look, Claim, Body, Store, Take, Swap, Open, Mark, Install, Sleep, Got, Failed, Cycle}
 use Rattle.lz_proto.specs.declared.once.Once.{Once}
 use Rattle.lz_proto.specs.declared.once.Once.TheVariants as once
 use Rattle.lz_proto.specs.declared.act.Act.{Act}
 use Rattle.lz_proto.specs.declared.act.Act.TheVariants.{Read, Return, Throw, Go}
 use Rattle.lz_proto.specs.Protocol.{Protocol, content, position, thread, is_open, named}
-use Rattle.lz_proto.specs.Steps.{Outcome, Moves, Waits, Refuses, result_of, ended, has_ended, goes, looked, claims, places, sleeps, stores, takes, swaps, next, read, finish, acted}
+use Rattle.lz_proto.specs.Steps.{Outcome, Moves, Waits, Refuses, result_of, ended, has_ended, goes, looked, claims, installs, sleeps, stores, takes, swaps, next, read, finish, acted}
 use Rattle.lz_proto.specs.Once.{is_inside, abstract_of, once_of, Ends, Tells, task, Rule, enters, gives, meets, returns, throws, fails, Follows, Shows, silent, begins, moves, IsExchange, claim, store, swap, Runs}
 use Rattle.lz_proto.specs.Once.{stores as stores_value}
 use Rattle.lz_proto.specs.Kept.{Stage, IsRunBy, IsRun, Holds, IsHeld}
@@ -97,7 +97,7 @@ module _ (p : Protocol) (stage : ℕ → Stage) (h : Holds p stage) (who : ℕ) 
   finish_follows act r (Swap c s latch) ends at is = refuses
   finish_follows act r (Open latch s) ends at is = refuses
   finish_follows act r (Mark c t) ends at is = refuses
-  finish_follows act r (Place c latch) ends at is = refuses
+  finish_follows act r (Install c latch) ends at is = refuses
   finish_follows act r (Sleep c latch) ends at is = refuses
   finish_follows act r (Got v) ends at is = refuses
   finish_follows act r Failed ends at is = refuses
@@ -170,25 +170,25 @@ module _ (p : Protocol) (stage : ℕ → Stage) (h : Holds p stage) (who : ℕ) 
   swap_follows c r latch at (Evaluating t) = λ is. refuses
   swap_follows c r latch at (Done v) = λ is. refuses
 
-  place_follows : (c latch : ℕ) → position p who ≡ Place c latch → (s : State) → content p c ≡ s → acted p who Go ≡ places p who c latch s → Ruled Go (places p who c latch s)
-  place_follows c latch at (Evaluating t) held = go (nat_eq t (named p latch))
+  install_follows : (c latch : ℕ) → position p who ≡ Install c latch → (s : State) → content p c ≡ s → acted p who Go ≡ installs p who c latch s → Ruled Go (installs p who c latch s)
+  install_follows c latch at (Evaluating t) held = go (nat_eq t (named p latch))
     where
       go : (b : Bool) → acted p who Go ≡ (if b then Moves (record p { cells = slice_set p.cells c (Waiting latch); at = slice_set p.at who (Look c) }) else goes p who (Look c)) → Ruled Go (if b then Moves (record p { cells = slice_set p.cells c (Waiting latch); at = slice_set p.at who (Look c) }) else goes p who (Look c))
       go true is q m = subst (Shows p who Go) (moves_same m) (
-          let here = (relied p stage h who within (Place c latch) at).0 in
-          quiet Go (Place c latch) (Look c) at (record p { cells = slice_set p.cells c (Waiting latch); at = slice_set p.at who (Look c) }) (act_keeps p stage h who within Go _ is) (λ u. refl) (λ d. refl) (everywhere (λ d. Alike (content p d) (get_or (slice_set p.cells c (Waiting latch)) d Empty)) c (rw (held, written_there p stage h who within (Place c latch) (Look c) at c here (Waiting latch)) tt) (λ d ne. rw (written_other p stage h who within (Place c latch) (Look c) at c here (Waiting latch) d ne) (alike_self (content p d)))) refl refl
+          let here = (relied p stage h who within (Install c latch) at).0 in
+          quiet Go (Install c latch) (Look c) at (record p { cells = slice_set p.cells c (Waiting latch); at = slice_set p.at who (Look c) }) (act_keeps p stage h who within Go _ is) (λ u. refl) (λ d. refl) (everywhere (λ d. Alike (content p d) (get_or (slice_set p.cells c (Waiting latch)) d Empty)) c (rw (held, written_there p stage h who within (Install c latch) (Look c) at c here (Waiting latch)) tt) (λ d ne. rw (written_other p stage h who within (Install c latch) (Look c) at c here (Waiting latch) d ne) (alike_self (content p d)))) refl refl
           )
-      go false is q m = passes Go (Place c latch) (Look c) refl at is (λ d. refl) refl q m
-  place_follows c latch at Empty held = λ is. passes Go (Place c latch) (Look c) refl at is (λ d. refl) refl
-  place_follows c latch at (Waiting other) held = λ is. passes Go (Place c latch) (Look c) refl at is (λ d. refl) refl
-  place_follows c latch at (Done v) held = λ is. passes Go (Place c latch) (Look c) refl at is (λ d. refl) refl
+      go false is q m = passes Go (Install c latch) (Look c) refl at is (λ d. refl) refl q m
+  install_follows c latch at Empty held = λ is. passes Go (Install c latch) (Look c) refl at is (λ d. refl) refl
+  install_follows c latch at (Waiting other) held = λ is. passes Go (Install c latch) (Look c) refl at is (λ d. refl) refl
+  install_follows c latch at (Done v) held = λ is. passes Go (Install c latch) (Look c) refl at is (λ d. refl) refl
 
   sleep_follows : (c latch : ℕ) → position p who ≡ Sleep c latch → (b : Bool) → acted p who Go ≡ sleeps p who c b → Ruled Go (sleeps p who c b)
   sleep_follows c latch at true is = passes Go (Sleep c latch) (Look c) refl at is (λ d. refl) refl
   sleep_follows c latch at false is = λ q e. absurd (unmoved Waits q (omega arith) e)
 
   mark_follows : (c t : ℕ) → position p who ≡ Mark c t → (b : Bool) → acted p who Go ≡ (if b then Moves (made_for p who c t) else Refuses) → Ruled Go (if b then Moves (made_for p who c t) else Refuses)
-  mark_follows c t at true is = λ q m. subst (Shows p who Go) (moves_same m) (quiet Go (Mark c t) (Place c (length p.opened)) at (made_for p who c t) (act_keeps p stage h who within Go _ is) (λ u. refl) (λ d. refl) (λ d. alike_self (content p d)) refl refl)
+  mark_follows c t at true is = λ q m. subst (Shows p who Go) (moves_same m) (quiet Go (Mark c t) (Install c (length p.opened)) at (made_for p who c t) (act_keeps p stage h who within Go _ is) (λ u. refl) (λ d. refl) (λ d. alike_self (content p d)) refl refl)
   mark_follows c t at false is = refuses
 
   next_follows : (pos : Pos) → position p who ≡ pos → acted p who Go ≡ next p who pos → Ruled Go (next p who pos)
@@ -199,7 +199,7 @@ module _ (p : Protocol) (stage : ℕ → Stage) (h : Holds p stage) (who : ℕ) 
   next_follows (Swap c r latch) at is = swap_follows c r latch at (content p c) is
   next_follows (Open latch r) at is = λ q m. subst (Shows p who Go) (moves_same m) (quiet Go (Open latch r) (ended r) at _ (act_keeps p stage h who within Go _ is) (λ u. refl) (λ d. ended_outside d r) (λ d. alike_self (content p d)) refl (ended_task r))
   next_follows (Mark c t) at is = mark_follows c t at (nat_lt 0 p.spare) is
-  next_follows (Place c latch) at is = place_follows c latch at (content p c) refl is
+  next_follows (Install c latch) at is = install_follows c latch at (content p c) refl is
   next_follows (Sleep c latch) at is = sleep_follows c latch at (is_open p latch) is
   next_follows Idle at is = refuses
   next_follows (Body c) at is = refuses

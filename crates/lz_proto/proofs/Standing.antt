@@ -5,11 +5,11 @@ use Rattle.runs.proofs.Putting.{same_or_not}
 use Rattle.lz_proto.specs.declared.state.State.{State}
 use Rattle.lz_proto.specs.declared.state.State.TheVariants.{Empty, Evaluating, Waiting, Done}
 use Rattle.lz_proto.specs.declared.pos.Pos.{Pos}
-use Rattle.lz_proto.specs.declared.pos.Pos.TheVariants.{Idle, Look, Claim, Body, Store, Take, Swap, Open, Mark, Place, Sleep, Got, Failed, Cycle}
+use Rattle.lz_proto.specs.declared.pos.Pos.TheVariants.{Idle, Look, Claim, Body, Store, Take, Swap, Open, Mark, Install, Sleep, Got, Failed, Cycle}
 use Rattle.lz_proto.specs.declared.act.Act.{Act}
 use Rattle.lz_proto.specs.declared.act.Act.TheVariants.{Read, Return, Throw, Go}
 use Rattle.lz_proto.specs.Protocol.{Protocol, content, position, thread, is_open, named}
-use Rattle.lz_proto.specs.Steps.{Outcome, Moves, Waits, Refuses, has_ended, ended, goes, looked, marks, claims, places, sleeps, stores, takes, swaps, next, finish, acted}
+use Rattle.lz_proto.specs.Steps.{Outcome, Moves, Waits, Refuses, has_ended, ended, goes, looked, marks, claims, installs, sleeps, stores, takes, swaps, next, finish, acted}
 
 -- where only a look leads
 abbrev pub is_found : Pos → Bool
@@ -67,11 +67,11 @@ module _ (p : Protocol) (who : ℕ) where
   claims_near c (Waiting latch) = goes_near (Look c) refl
   claims_near c (Done v) = goes_near (Look c) refl
 
-  places_near : (c latch : ℕ) (s : State) → Near p who (places p who c latch s)
-  places_near c latch (Evaluating t) = near_if (nat_eq t (named p latch)) _ _ (Look c, refl, refl, omega arith, λ latch made. refl, unfound refl, λ latch made o. o) (goes_near (Look c) refl)
-  places_near c latch Empty = goes_near (Look c) refl
-  places_near c latch (Waiting other) = goes_near (Look c) refl
-  places_near c latch (Done v) = goes_near (Look c) refl
+  installs_near : (c latch : ℕ) (s : State) → Near p who (installs p who c latch s)
+  installs_near c latch (Evaluating t) = near_if (nat_eq t (named p latch)) _ _ (Look c, refl, refl, omega arith, λ latch made. refl, unfound refl, λ latch made o. o) (goes_near (Look c) refl)
+  installs_near c latch Empty = goes_near (Look c) refl
+  installs_near c latch (Waiting other) = goes_near (Look c) refl
+  installs_near c latch (Done v) = goes_near (Look c) refl
 
   stores_near : (c : ℕ) (r : Option ℕ) (s : State) → Near p who (stores p who c r s)
   stores_near c r (Evaluating t) = near_if (nat_eq t (thread p who)) _ _ (_, refl, refl, omega arith, λ latch made. refl, unfound (ended_unfound r), λ latch made o. o) (goes_near (Take c r) refl)
@@ -96,7 +96,7 @@ module _ (p : Protocol) (who : ℕ) where
   sleeps_near c false = tt
 
   marks_near : (c t : ℕ) → Near p who (marks p who c t)
-  marks_near c t = near_if (nat_lt 0 p.spare) _ _ (Place c (length p.opened), refl, refl, omega arith, λ latch made. get_or_append_left p.owner (t ∷ []) 0 latch made, unfound refl, λ latch made o. get_or_append_left p.opened (false ∷ []) true latch made ∙ o) tt
+  marks_near c t = near_if (nat_lt 0 p.spare) _ _ (Install c (length p.opened), refl, refl, omega arith, λ latch made. get_or_append_left p.owner (t ∷ []) 0 latch made, unfound refl, λ latch made o. get_or_append_left p.opened (false ∷ []) true latch made ∙ o) tt
 
   next_near : (pos : Pos) → position p who ≡ pos → Near p who (next p who pos)
   next_near (Look c) at = (_, refl, refl, omega arith, λ latch made. refl, λ is. (c, at, refl), λ latch made o. o)
@@ -106,7 +106,7 @@ module _ (p : Protocol) (who : ℕ) where
   next_near (Swap c r latch) at = swaps_near c r latch (content p c)
   next_near (Open latch r) at = (_, refl, refl, omega arith, λ latch made. refl, unfound (ended_unfound r), λ l made o. opened_open p.opened latch l o)
   next_near (Mark c t) at = marks_near c t
-  next_near (Place c latch) at = places_near c latch (content p c)
+  next_near (Install c latch) at = installs_near c latch (content p c)
   next_near (Sleep c latch) at = sleeps_near c (is_open p latch)
   next_near Idle at = tt
   next_near (Body c) at = tt
@@ -124,7 +124,7 @@ module _ (p : Protocol) (who : ℕ) where
   finish_near (Swap c s latch) r = tt
   finish_near (Open latch s) r = tt
   finish_near (Mark c t) r = tt
-  finish_near (Place c latch) r = tt
+  finish_near (Install c latch) r = tt
   finish_near (Sleep c latch) r = tt
   finish_near (Got v) r = tt
   finish_near Failed r = tt

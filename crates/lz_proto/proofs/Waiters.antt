@@ -3,12 +3,12 @@ use Rattle.std.proofs.Common.{◌≡◌, ◌≢◌, ℕ, length, Bool, true, fal
 use Rattle.lz_proto.specs.declared.state.State.{State}
 use Rattle.lz_proto.specs.declared.state.State.TheVariants.{Empty, Evaluating, Waiting, Done}
 use Rattle.lz_proto.specs.declared.pos.Pos.{Pos}
-use Rattle.lz_proto.specs.declared.pos.Pos.TheVariants.{Idle, Look, Claim, Body, Store, Take, Swap, Open, Mark, Place, Sleep, Got, Failed, Cycle}
+use Rattle.lz_proto.specs.declared.pos.Pos.TheVariants.{Idle, Look, Claim, Body, Store, Take, Swap, Open, Mark, Install, Sleep, Got, Failed, Cycle}
 use Rattle.lz_proto.specs.declared.once.Once.TheVariants as once
 use Rattle.lz_proto.specs.declared.act.Act.{Act}
 use Rattle.lz_proto.specs.declared.act.Act.TheVariants.{Read, Return, Throw, Go}
 use Rattle.lz_proto.specs.Protocol.{Protocol, content, position, thread, is_open, named}
-use Rattle.lz_proto.specs.Steps.{Outcome, Waits, Refuses, has_ended, marks, claims, places, sleeps, stores, takes, swaps, next, read, finish, acted}
+use Rattle.lz_proto.specs.Steps.{Outcome, Waits, Refuses, has_ended, marks, claims, installs, sleeps, stores, takes, swaps, next, read, finish, acted}
 use Rattle.lz_proto.specs.Once.{abstract_of}
 use Rattle.lz_proto.specs.Kept.{Stage, Mine, Set, Going, Over, IsShared, is_over, Keeps, IsRun, Holds, IsApart}
 use Rattle.lz_proto.specs.Causes.{WaitsWell, IsBarred}
@@ -41,11 +41,11 @@ module _ (p : Protocol) (stage : ℕ → Stage) (h : Holds p stage) (apart : IsA
   claims_on c (Waiting latch) = omega arith
   claims_on c (Done v) = omega arith
 
-  places_on : (c latch : ℕ) (s : State) → number (places p who c latch s) ≢ 1
-  places_on c latch (Evaluating t) = if_unwaited (nat_eq t (named p latch)) _ _ (omega arith) (omega arith)
-  places_on c latch Empty = omega arith
-  places_on c latch (Waiting other) = omega arith
-  places_on c latch (Done v) = omega arith
+  installs_on : (c latch : ℕ) (s : State) → number (installs p who c latch s) ≢ 1
+  installs_on c latch (Evaluating t) = if_unwaited (nat_eq t (named p latch)) _ _ (omega arith) (omega arith)
+  installs_on c latch Empty = omega arith
+  installs_on c latch (Waiting other) = omega arith
+  installs_on c latch (Done v) = omega arith
 
   stores_on : (c : ℕ) (r : Option ℕ) (s : State) → number (stores p who c r s) ≢ 1
   stores_on c r (Evaluating t) = if_unwaited (nat_eq t (thread p who)) _ _ (omega arith) (omega arith)
@@ -77,7 +77,7 @@ module _ (p : Protocol) (stage : ℕ → Stage) (h : Holds p stage) (apart : IsA
   next_waits (Swap c r latch) at w = unwaited (swaps p who c r latch (content p c)) (swaps_on c r latch (content p c)) w
   next_waits (Open latch r) at w = unwaited (next p who (Open latch r)) (omega arith) w
   next_waits (Mark c t) at w = unwaited (marks p who c t) (if_unwaited (nat_lt 0 p.spare) _ _ (omega arith) (omega arith)) w
-  next_waits (Place c latch) at w = unwaited (places p who c latch (content p c)) (places_on c latch (content p c)) w
+  next_waits (Install c latch) at w = unwaited (installs p who c latch (content p c)) (installs_on c latch (content p c)) w
   next_waits (Sleep c latch) at w = sleeps_on c latch at (is_open p latch) refl w
   next_waits Idle at w = unwaited Refuses (omega arith) w
   next_waits (Body c) at w = unwaited Refuses (omega arith) w
@@ -95,7 +95,7 @@ module _ (p : Protocol) (stage : ℕ → Stage) (h : Holds p stage) (apart : IsA
   finish_waits (Swap c s latch) r w = unwaited Refuses (omega arith) w
   finish_waits (Open latch s) r w = unwaited Refuses (omega arith) w
   finish_waits (Mark c t) r w = unwaited Refuses (omega arith) w
-  finish_waits (Place c latch) r w = unwaited Refuses (omega arith) w
+  finish_waits (Install c latch) r w = unwaited Refuses (omega arith) w
   finish_waits (Sleep c latch) r w = unwaited Refuses (omega arith) w
   finish_waits (Got v) r w = unwaited Refuses (omega arith) w
   finish_waits Failed r w = unwaited Refuses (omega arith) w

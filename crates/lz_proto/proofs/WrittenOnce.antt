@@ -4,7 +4,7 @@ use Rattle.std.specs.List.{All}
 use Rattle.std.proofs.lemmas.List.Elements.{All-head, All-tail}
 use Rattle.runs.proofs.Putting.{same_or_not}
 use Rattle.lz_proto.specs.declared.pos.Pos.{Pos}
-use Rattle.lz_proto.specs.declared.pos.Pos.TheVariants.{Idle, Look, Claim, Body, Store, Take, Swap, Open, Mark, Place, Sleep, Got, Failed, Cycle}
+use Rattle.lz_proto.specs.declared.pos.Pos.TheVariants.{Idle, Look, Claim, Body, Store, Take, Swap, Open, Mark, Install, Sleep, Got, Failed, Cycle}
 use Rattle.lz_proto.specs.declared.once.Once.{Once}
 use Rattle.lz_proto.specs.declared.once.Once.TheVariants as once
 use Rattle.lz_proto.specs.declared.act.Act.{Act}
@@ -64,7 +64,7 @@ return_body c (Take d r) act e = absurd (true≢false (sym e))
 return_body c (Swap d r latch) act e = absurd (true≢false (sym e))
 return_body c (Open latch r) act e = absurd (true≢false (sym e))
 return_body c (Mark d t) act e = absurd (true≢false (sym e))
-return_body c (Place d latch) act e = absurd (true≢false (sym e))
+return_body c (Install d latch) act e = absurd (true≢false (sym e))
 return_body c (Sleep d latch) act e = absurd (true≢false (sym e))
 return_body c (Got v) act e = absurd (true≢false (sym e))
 return_body c Failed act e = absurd (true≢false (sym e))
@@ -81,7 +81,7 @@ ends_inside c r (Claim d) e = absurd (subst IsEnding (sym e) tt)
 ends_inside c r (Body d) e = absurd (subst IsEnding (sym e) tt)
 ends_inside c r (Open latch s) e = absurd (subst IsEnding (sym e) tt)
 ends_inside c r (Mark d t) e = absurd (subst IsEnding (sym e) tt)
-ends_inside c r (Place d latch) e = absurd (subst IsEnding (sym e) tt)
+ends_inside c r (Install d latch) e = absurd (subst IsEnding (sym e) tt)
 ends_inside c r (Sleep d latch) e = absurd (subst IsEnding (sym e) tt)
 ends_inside c r (Got v) e = absurd (subst IsEnding (sym e) tt)
 ends_inside c r Failed e = absurd (subst IsEnding (sym e) tt)

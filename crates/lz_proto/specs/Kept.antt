@@ -3,11 +3,11 @@ use Rattle.std.specs.Prelude.{◌≡◌, ℕ, ◌<◌, List, Bool, true, false, 
 use Rattle.lz_proto.specs.declared.state.State.{State}
 use Rattle.lz_proto.specs.declared.state.State.TheVariants.{Empty, Evaluating, Waiting, Done}
 use Rattle.lz_proto.specs.declared.pos.Pos.{Pos}
-use Rattle.lz_proto.specs.declared.pos.Pos.TheVariants.{Idle, Look, Claim, Body, Store, Take, Swap, Open, Mark, Place, Sleep, Got, Failed, Cycle}
+use Rattle.lz_proto.specs.declared.pos.Pos.TheVariants.{Idle, Look, Claim, Body, Store, Take, Swap, Open, Mark, Install, Sleep, Got, Failed, Cycle}
 use Rattle.lz_proto.specs.Protocol.{Protocol, content, position, thread, is_open, named}
 use Rattle.lz_proto.specs.Once.{is_inside}
 
--- whose a latch is: it is an accessor's that is about to place it, a cell's, an accessor's that is about to open it, or nobody's, since it is open or not made
+-- whose a latch is: it is an accessor's that is about to install it, a cell's, an accessor's that is about to open it, or nobody's, since it is open or not made
 pub data Stage : Type 0 where
   Mine : (who : ℕ) → Stage
   Set : (c : ℕ) → Stage
@@ -42,7 +42,7 @@ Keeps cells made stage who (Take c r) = (c < length cells) × IsLatched (get_or 
 Keeps cells made stage who (Swap c r latch) = (c < length cells) × (get_or cells c Empty ≡ Waiting latch)
 Keeps cells made stage who (Open latch r) = stage latch ≡ Going who
 Keeps cells made stage who (Mark c t) = c < length cells
-Keeps cells made stage who (Place c latch) = (c < length cells) × (stage latch ≡ Mine who)
+Keeps cells made stage who (Install c latch) = (c < length cells) × (stage latch ≡ Mine who)
 Keeps cells made stage who (Sleep c latch) = (c < length cells) × (latch < made) × IsShared c (stage latch)
 Keeps cells made stage who (Got v) = Unit {0}
 Keeps cells made stage who Failed = Unit {0}

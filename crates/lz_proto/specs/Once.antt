@@ -3,7 +3,7 @@ use Rattle.std.specs.Prelude.{◌≡◌, ℕ, suc, List, [], ◌∷◌, Bool, tr
 use Rattle.lz_proto.specs.declared.state.State.{State}
 use Rattle.lz_proto.specs.declared.state.State.TheVariants as state
 use Rattle.lz_proto.specs.declared.pos.Pos.{Pos}
-use Rattle.lz_proto.specs.declared.pos.Pos.TheVariants.{Idle, Look, Claim, Body, Store, Take, Swap, Open, Mark, Place, Sleep, Got, Failed, Cycle}
+use Rattle.lz_proto.specs.declared.pos.Pos.TheVariants.{Idle, Look, Claim, Body, Store, Take, Swap, Open, Mark, Install, Sleep, Got, Failed, Cycle}
 use Rattle.lz_proto.specs.declared.once.Once.{Once}
 use Rattle.lz_proto.specs.declared.once.Once.TheVariants as once
 use Rattle.lz_proto.specs.Protocol.{Protocol, content, thread}
@@ -55,7 +55,7 @@ task Idle = Rests
 task (Look c) = Reads c
 task (Claim c) = Reads c
 task (Mark c t) = Reads c
-task (Place c latch) = Reads c
+task (Install c latch) = Reads c
 task (Sleep c latch) = Reads c
 task (Body c) = Runs c
 task (Store c r) = Ends c r

@@ -3,7 +3,7 @@ use Rattle.std.specs.Prelude.{ℕ, [], ◌∷◌, ◌++◌, ◌-◌, Bool, true,
 use Rattle.lz_proto.specs.declared.state.State.{State}
 use Rattle.lz_proto.specs.declared.state.State.TheVariants.{Empty, Evaluating, Waiting, Done}
 use Rattle.lz_proto.specs.declared.pos.Pos.{Pos}
-use Rattle.lz_proto.specs.declared.pos.Pos.TheVariants.{Idle, Look, Claim, Body, Store, Take, Swap, Open, Mark, Place, Sleep, Got, Failed, Cycle}
+use Rattle.lz_proto.specs.declared.pos.Pos.TheVariants.{Idle, Look, Claim, Body, Store, Take, Swap, Open, Mark, Install, Sleep, Got, Failed, Cycle}
 use Rattle.lz_proto.specs.declared.act.Act.{Act}
 use Rattle.lz_proto.specs.declared.act.Act.TheVariants.{Read, Return, Throw, Go}
 use Rattle.lz_proto.specs.Protocol.{Protocol, content, position, thread, is_open, named}
@@ -55,12 +55,12 @@ module _ (p : Protocol) (who : ℕ) where
 
   -- it makes a latch that names this thread, where there is room for one
   abbrev pub marks : ℕ → ℕ → Outcome
-  marks c t = if nat_lt 0 p.spare then Moves (record p { opened = p.opened ++ false ∷ []; owner = p.owner ++ t ∷ []; at = slice_set p.at who (Place c (length p.opened)); spare = p.spare - 1 }) else Refuses
+  marks c t = if nat_lt 0 p.spare then Moves (record p { opened = p.opened ++ false ∷ []; owner = p.owner ++ t ∷ []; at = slice_set p.at who (Install c (length p.opened)); spare = p.spare - 1 }) else Refuses
 
   -- it exchanges `Evaluating` of the latch's thread for the latch
-  abbrev pub places : ℕ → ℕ → State → Outcome
-  places c latch (Evaluating t) = if nat_eq t (named p latch) then writes c (Waiting latch) (Look c) else goes (Look c)
-  places c latch other = goes (Look c)
+  abbrev pub installs : ℕ → ℕ → State → Outcome
+  installs c latch (Evaluating t) = if nat_eq t (named p latch) then writes c (Waiting latch) (Look c) else goes (Look c)
+  installs c latch other = goes (Look c)
 
   -- it awaits the latch
   abbrev pub sleeps : ℕ → Bool → Outcome
@@ -95,7 +95,7 @@ module _ (p : Protocol) (who : ℕ) where
   next (Swap c r latch) = swaps c r latch (content p c)
   next (Open latch r) = opens latch r
   next (Mark c t) = marks c t
-  next (Place c latch) = places c latch (content p c)
+  next (Install c latch) = installs c latch (content p c)
   next (Sleep c latch) = sleeps c (is_open p latch)
   next other = Refuses
 

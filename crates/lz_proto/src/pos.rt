@@ -25,7 +25,7 @@ pub enum Pos {
     /// it makes a latch that names this thread, which runs the initialiser
     Mark(u32, u32),
     /// it exchanges `Evaluating` for the latch
-    Place(u32, u32),
+    Install(u32, u32),
     /// it awaits the latch
     Sleep(u32, u32),
     /// it returned the value

@@ -198,17 +198,17 @@ impl Proto {
         self.at[who as usize] = next;
     }
 
-    /// It makes a latch that names this thread, and goes on to place it.
+    /// It makes a latch that names this thread, and goes on to install it.
     pub(crate) fn make(&mut self, who: u32, cell: u32, thread: u32)
         requires there { who < length self.old.at }
         requires room { 0 < self.old.spare }
-        requires kept { IsKept (record self.old { opened = self.old.opened ++ false ∷ []; owner = self.old.owner ++ thread ∷ []; at = slice_set self.old.at who (pos.Place cell (length self.old.opened)); spare = self.old.spare - 1 }) }
-        ensures { self.new ≡ record self.old { opened = self.old.opened ++ false ∷ []; owner = self.old.owner ++ thread ∷ []; at = slice_set self.old.at who (pos.Place cell (length self.old.opened)); spare = self.old.spare - 1 } }
+        requires kept { IsKept (record self.old { opened = self.old.opened ++ false ∷ []; owner = self.old.owner ++ thread ∷ []; at = slice_set self.old.at who (pos.Install cell (length self.old.opened)); spare = self.old.spare - 1 }) }
+        ensures { self.new ≡ record self.old { opened = self.old.opened ++ false ∷ []; owner = self.old.owner ++ thread ∷ []; at = slice_set self.old.at who (pos.Install cell (length self.old.opened)); spare = self.old.spare - 1 } }
     {
         let latch = self.opened.len() as u32;
         self.opened.push_reserved(false);
         self.owner.push_reserved(thread);
-        self.at[who as usize] = Pos::Place(cell, latch);
+        self.at[who as usize] = Pos::Install(cell, latch);
         self.spare -= 1;
     }
 }

@@ -1,13 +1,10 @@
-//! One act of an accessor.
+//! What comes of one act of an accessor.
 
 ghost use Rattle.std.specs.Prelude.{◌≡◌, ◌<◌, ℕ, length, Option};
 ghost use Rattle.lz_proto.specs.Protocol.{content, position, thread, is_open, named};
-ghost use Rattle.lz_proto.specs.Steps.{acted, next, read, finish, looked, claims, places, sleeps, stores, takes, swaps, opens, result_of, ended};
+ghost use Rattle.lz_proto.specs.Steps.{acted, next, read, finish, looked, claims, installs, sleeps, stores, takes, swaps, opens, result_of, ended};
 ghost use Rattle.lz_proto.specs.Kept.{IsKept};
-ghost use Rattle.lz_proto.specs.Once.{Follows};
-ghost use Rattle.lz_proto.specs.Causes.{WaitsWell, IsBarred, IsWrong};
 ghost use Rattle.lz_proto.specs.Promises.{Answers};
-ghost use Rattle.lz_proto.specs.declared.stepped.Stepped.TheVariants as stepped;
 ghost use Rattle.lz_proto.specs.declared.pos.Pos.TheVariants as pos;
 
 use crate::act::Act;
@@ -37,22 +34,8 @@ fn end_of(ended_with: Option<u64>) -> Pos
 }
 
 impl Proto {
-    /// An act of an accessor. `Waits` comes exactly where it awaits a closed latch; `Wrong` exactly where it stands where it
-    /// can't do this, or there is no such cell; nothing changes then. Each other step is one by the rules of cells.
-    pub fn step(&mut self, who: u32, act: Act) -> Stepped
-        requires there { who < length self.old.at }
-        requires room { (c t : ℕ) → position self.old who ≡ pos.Mark c t → 0 < self.old.spare }
-        ensures done { Answers result (acted self.old who act) self.old self.new }
-        ensures moved { result ≡ stepped.Moved → Follows self.old who act self.new }
-        ensures waits { (result ≡ stepped.Waits → WaitsWell self.old who) × (IsBarred self.old who act → result ≡ stepped.Waits) }
-        ensures wrong { (result ≡ stepped.Wrong → IsWrong self.old who act) × (IsWrong self.old who act → result ≡ stepped.Wrong) }
-    {
-        self.kept();
-        self.make_act(who, act)
-    }
-
     /// What comes of an act.
-    fn make_act(&mut self, who: u32, act: Act) -> Stepped
+    pub(crate) fn make_act(&mut self, who: u32, act: Act) -> Stepped
         requires there { who < length self.old.at }
         requires room { (c t : ℕ) → position self.old who ≡ pos.Mark c t → 0 < self.old.spare }
         ensures { Answers result (acted self.old who act) self.old self.new }
@@ -113,7 +96,7 @@ impl Proto {
             Pos::Swap(cell, ended_with, latch) => self.swap(who, cell, ended_with, latch),
             Pos::Open(latch, ended_with) => self.unlatch(who, latch, ended_with),
             Pos::Mark(cell, thread) => self.mark(who, cell, thread),
-            Pos::Place(cell, latch) => self.place(who, cell, latch),
+            Pos::Install(cell, latch) => self.install(who, cell, latch),
             Pos::Sleep(cell, latch) => self.sleep(who, cell, latch),
             Pos::Idle | Pos::Body(_) | Pos::Got(_) | Pos::Failed | Pos::Cycle => Stepped::Wrong,
         }
@@ -252,11 +235,11 @@ impl Proto {
     }
 
     /// It exchanges `Evaluating` of the latch's thread for the latch.
-    fn place(&mut self, who: u32, cell: u32, latch: u32) -> Stepped
+    fn install(&mut self, who: u32, cell: u32, latch: u32) -> Stepped
         requires there { who < length self.old.at }
-        requires at { position self.old who ≡ pos.Place cell latch }
+        requires at { position self.old who ≡ pos.Install cell latch }
         requires kept { IsKept self.old }
-        ensures { Answers result (next self.old who (pos.Place cell latch)) self.old self.new }
+        ensures { Answers result (next self.old who (pos.Install cell latch)) self.old self.new }
     {
         match self.cell(cell) {
             State::Evaluating(thread) if thread == self.owner(latch) => {

@@ -53,7 +53,7 @@ fn answer(p: &mut Proto, who: u32, act: Act) -> Option<Stepped> {
 
 const CLAIMED: [(u32, Act); 3] = [(0, Act::Read(0)), (0, Act::Go), (0, Act::Go)];
 
-/// Accessor 1 places a latch, waits, and is woken when accessor 0 has stored 7.
+/// Accessor 1 installs a latch, waits, and is woken when accessor 0 has stored 7.
 const AWAITED: [(u32, Act); 18] = [
     (0, Act::Read(0)),
     (0, Act::Go),

@@ -23,7 +23,7 @@ pub fn exchanges_refine()
         → NoLostWaiter (reach (lower ends n reads) turns).state }
 {}
 
-/// A reader that spins in place of waiting, a result that is stored without the exchange, and a failure that
+/// A reader that spins instead of waiting, a result that is stored without the exchange, and a failure that
 /// leaves Evaluating in the field refine the atomic cell with no bound whatever.
 pub fn wrong_ones()
     ensures spinning { (b : ℕ) → Refines (with_step spins (λ t. 1) 2 1) (upper (λ t. 1) 2 1) b → ⊥ }

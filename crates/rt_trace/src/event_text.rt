@@ -1,7 +1,7 @@
-//! The text of a trace.
+//! The text of an event.
 
 ghost use Rattle.std.specs.Prelude.{◌≡◌, ◌++◌, IfOk, OnOk, encode_utf8_all};
-ghost use Rattle.rt_trace.specs.Traces.{escape, escaped, message_text, uncaught_text, event_line, event_text, trace_text};
+ghost use Rattle.rt_trace.specs.Traces.{escape, escaped, message_text, uncaught_text, event_line, event_text};
 ghost use Rattle.ty_prog.specs.declared.event.Event.TheVariants as event;
 
 use crate::NoMemory;
@@ -10,19 +10,8 @@ use sl_base::Name;
 use std::alloc::Global;
 use ty_prog::Event;
 
-/// The text of a trace: each printed line, and a line for each uncaught exception. Where it is numbered, a printed line
-/// tells its thread, and `\`, LF and CR are written `\\`, `\n` and `\r`.
-pub fn trace_text(alloc: Global, events: &[Event], numbered: bool) -> Result<Vec<u8>, NoMemory>
-    ensures { IfOk result (λ text. text.items ≡ trace_text numbered events.now) }
-{
-    let mut text = Vec::new(alloc);
-    for event in events {
-        put_event(alloc, event, numbered, &mut text)?;
-    }
-    Ok(text)
-}
-
-fn put_event(
+// Appends the line of an event.
+pub(crate) fn put_event(
     alloc: Global,
     event: &Event,
     numbered: bool,
@@ -42,6 +31,7 @@ fn put_event(
     Ok(())
 }
 
+// Appends a printed line, without its LF.
 fn put_line(thread: u32, text: &Name, numbered: bool, into: &mut Vec<u8>) -> Result<(), NoMemory>
     ensures { OnOk result (into.new.items ≡ into.old.items ++ event_line numbered (event.Line thread text.now)) }
 {
@@ -56,6 +46,7 @@ fn put_line(thread: u32, text: &Name, numbered: bool, into: &mut Vec<u8>) -> Res
     }
 }
 
+// Appends what is told of an uncaught exception, without an LF.
 fn put_uncaught(
     alloc: Global,
     thread: u32,
@@ -106,6 +97,7 @@ fn put_escaped(text: &[u8], into: &mut Vec<u8>) -> Result<(), NoMemory>
     Ok(())
 }
 
+// Appends a byte, escaped where it has to be.
 fn put_escape(byte: u8, into: &mut Vec<u8>) -> Result<(), NoMemory>
     ensures { OnOk result (into.new.items ≡ into.old.items ++ escape byte) }
 {

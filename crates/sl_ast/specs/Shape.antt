@@ -11,7 +11,7 @@ abbrev pub in_table : Option Shape → Shape
 in_table (Some found) = found
 in_table None = shapes.Unknown
 
--- the shape at a place of a table, `Unknown` past its end
+-- the shape with a number in a table, `Unknown` past its end
 abbrev pub numbered : List Shape → ℕ → Shape
 numbered table number = in_table (slice_get table number)
 

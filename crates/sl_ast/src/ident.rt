@@ -3,7 +3,7 @@
 use sl_base::Name;
 use sl_text::Span;
 
-/// A name, at its place: the terminal `id` of the grammar.
+/// A name, with its span: the terminal `id` of the grammar.
 #[derive(Drop)]
 pub struct Ident {
     pub name: Name,

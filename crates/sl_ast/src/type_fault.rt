@@ -4,7 +4,8 @@ use sl_text::Span;
 use thiserror::Error;
 
 /// A rule of typing that is broken, and where.
-#[derive(Clone, Copy, Debug, PartialEq, Eq)]
+#[derive(Clone, Copy, Debug, PartialEq, Eq, Error)]
+#[error("character {at}: {kind}", at = .span.from)]
 pub struct TypeFault {
     pub kind: TypeKind,
     pub span: Span,
@@ -13,54 +14,55 @@ pub struct TypeFault {
 /// The rules of typing, in the order of their numbers, and want of memory.
 #[derive(Clone, Copy, Debug, PartialEq, Eq, Error)]
 pub enum TypeKind {
-    #[error("Unknown")]
+    #[error("a name that means nothing here")]
     Unknown,
-    #[error("UnknownType")]
+    #[error("no such type, or one that is not allowed here")]
     UnknownType,
-    #[error("Missing")]
+    #[error("no such member")]
     Missing,
-    #[error("Mismatch")]
+    #[error("an expression of another type than is wanted")]
     Mismatch,
-    #[error("Arity")]
+    #[error("another number of arguments or of parts of a pattern than is wanted")]
     Arity,
-    #[error("NotMethod")]
+    #[error("arguments of what takes none, or none of what takes some")]
     NotMethod,
-    #[error("NotNew")]
+    #[error("a class of which no object can be made")]
     NotNew,
-    #[error("NotAssignable")]
+    #[error("an assignment to what is no variable")]
     NotAssignable,
-    #[error("Double")]
+    #[error("a second definition of one name, or a modifier that stands twice")]
     Double,
-    #[error("Reserved")]
+    #[error("a name that templates may not have")]
     Reserved,
-    #[error("Parent")]
+    #[error("a parent that this template may not have")]
     Parent,
-    #[error("Cyclic")]
+    #[error("a template that is its own ancestor")]
     Cyclic,
-    #[error("Override")]
+    #[error("a member that may not stand for the one that it overrides")]
     Override,
-    #[error("Abstract")]
+    #[error("a member without a body where it wants one")]
     Abstract,
-    #[error("NoType")]
+    #[error("a member whose type has to be written")]
     NoType,
-    #[error("Private")]
+    #[error("a private member outside its template")]
     Private,
-    #[error("Super")]
+    #[error("no such member behind the template in its linearisation")]
     Super,
-    #[error("Pattern")]
+    #[error("a pattern that no value of this type may have")]
     Pattern,
-    #[error("Forward")]
+    #[error("a local before its definition")]
     Forward,
-    #[error("Range")]
+    #[error("a number that is too large")]
     Range,
-    #[error("Entry")]
+    #[error("no object Main with a method main to begin with")]
     Entry,
-    #[error("TooMany")]
+    #[error("more templates or parameters than there may be")]
     TooMany,
-    #[error("TooLarge")]
+    #[error("a body that is too large")]
     TooLarge,
-    #[error("TemplateTooLarge")]
+    #[error("a template, or all of them together, that is too large")]
     TemplateTooLarge,
+    /// No memory was left.
     #[error("no memory was left")]
     Memory,
 }

@@ -87,14 +87,15 @@ fn verdict(alloc: Global, bytes: &[u8]) -> Result<String, AllocError> {
     }
 }
 
+// What is told of a fault: its position, its part and its kind.
 fn told(alloc: Global, fault: SourceFault) -> Result<String, AllocError> {
     match fault {
         SourceFault::Refused(Refusal::NotUtf8 { at }) => format!(in alloc; "byte {at}: not UTF-8"),
         SourceFault::Refused(Refusal::Lex { fault, spot }) => {
-            format!(in alloc; "{}:{}: lex {}", spot.line, spot.column, fault.kind)
+            format!(in alloc; "{}:{}: lex {:?}", spot.line, spot.column, fault.kind)
         }
         SourceFault::Refused(Refusal::Parse { fault, spot }) => {
-            format!(in alloc; "{}:{}: parse {}", spot.line, spot.column, fault.kind)
+            format!(in alloc; "{}:{}: parse {:?}", spot.line, spot.column, fault.kind)
         }
         SourceFault::Memory => String::from_str(alloc, "memory"),
     }

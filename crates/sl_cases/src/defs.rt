@@ -29,6 +29,7 @@ pub(crate) fn outline_of(alloc: Global, unit: &Unit) -> Result<String, AllocErro
     Ok(out.into_text())
 }
 
+// Writes what a job is about.
 fn write_job<'a>(out: &mut Outline<'a>, job: Job<'a>) -> Result<(), AllocError> {
     match job {
         Job::Top(def) => write_top(out, def),
@@ -98,6 +99,7 @@ fn write_top<'a>(out: &mut Outline<'a>, def: &'a TopDef) -> Result<(), AllocErro
     }
 }
 
+// The word of a modifier of a class.
 fn class_word(modifier: ClassModifier) -> &'static str {
     match modifier {
         ClassModifier::Sealed(_) => "sealed",
@@ -136,6 +138,7 @@ fn put_template<'a>(out: &mut Outline<'a>, template: &'a Template) -> Result<(),
     }
 }
 
+// Puts the parents of a template.
 fn put_parents<'a>(out: &mut Outline<'a>, parents: &'a Parents) -> Result<(), AllocError> {
     out.put(Job::Close)?;
     for parent in parents.traits.as_slice().iter().rev() {
@@ -165,6 +168,7 @@ fn write_member<'a>(out: &mut Outline<'a>, member: &'a Member) -> Result<(), All
     }
 }
 
+// The word of a modifier of a member.
 fn member_word(modifier: MemberModifier) -> &'static str {
     match modifier {
         MemberModifier::Override(_) => "override",
@@ -238,6 +242,7 @@ fn write_def<'a>(out: &mut Outline<'a>, def: &'a Def) -> Result<(), AllocError> 
     }
 }
 
+// Writes the parameters of a method.
 fn write_params(out: &mut Outline, params: &[Param]) -> Result<(), AllocError> {
     out.open("params")?;
     for param in params {

@@ -73,6 +73,7 @@ pub(crate) fn write_expr<'a>(out: &mut Outline<'a>, e: &'a Expr) -> Result<(), A
     }
 }
 
+// Puts the cases of a match or a handler.
 fn put_cases<'a>(out: &mut Outline<'a>, cases: &'a Cases) -> Result<(), AllocError> {
     for case in cases.rest.as_slice().iter().rev() {
         out.put(Job::Case(case))?;
@@ -105,6 +106,7 @@ pub(crate) fn write_prefix<'a>(out: &mut Outline<'a>, of: &'a Prefix) -> Result<
     out.put(Job::Simple(&of.simple))
 }
 
+// The sign before an operand.
 fn sign_word(sign: Sign) -> &'static str {
     match sign {
         Sign::Minus => "-",
@@ -173,6 +175,7 @@ pub(crate) fn put_arguments<'a>(
     Ok(())
 }
 
+// Puts the statements of a block.
 fn put_block<'a>(out: &mut Outline<'a>, block: &'a Block) -> Result<(), AllocError> {
     for stat in block.stats.as_slice().iter().rev() {
         out.put(Job::Stat(stat))?;

@@ -14,6 +14,7 @@ pub(crate) fn shown(alloc: Global, tokens: &[Token]) -> Result<String, AllocErro
     Ok(all)
 }
 
+// A token, with a space before it.
 fn shown_one(alloc: Global, token: &Token) -> Result<String, AllocError> {
     match &token.kind {
         TokenKind::Id(name) | TokenKind::Op(name) => format!(in alloc; " {}", name.as_str()),

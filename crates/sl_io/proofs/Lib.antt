@@ -1,4 +1,4 @@
 pub mod Gaining
-pub mod Places
+pub mod Numbers
 pub mod ReadUpTo
 pub mod Rising

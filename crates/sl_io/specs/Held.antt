@@ -18,8 +18,8 @@ abbrev pub file_in : List (List ℕ × List ℕ) → List ℕ → Option (List �
 file_in [] name = None
 file_in (entry ∷ entries) name = if bytes_eq entry.0 name then Some entry.1 else file_in entries name
 
--- the first file with this name stands at i
-pub record IsPlace (entries : List (List ℕ × List ℕ)) (name : List ℕ) (i : ℕ) : Type 0 where
+-- the first file with this name has the number i, from 0
+pub record IsNumberOf (entries : List (List ℕ × List ℕ)) (name : List ℕ) (i : ℕ) : Type 0 where
   pub before : file_in (take i entries) name ≡ None
   pub within : i < length entries
   pub named : (slice_index_or entries i (name, [])).0 ≡ name

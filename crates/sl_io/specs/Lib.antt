@@ -1,3 +1,4 @@
+-- What a reader must believe, in this order.
 pub mod Counts
 pub mod Files
 pub mod Gains

@@ -4,7 +4,7 @@ ghost use Rattle.sl_io.specs.Counts.{Rose};
 ghost use Rattle.sl_io.specs.FaultPlan.{is_failing, after_call};
 ghost use Rattle.sl_io.specs.Fetch.{IfBytes, OnMissing, OnLong, OnFailed, UnlessFailed};
 ghost use Rattle.sl_io.specs.Files.{Binds};
-ghost use Rattle.sl_io.specs.Held.{stored, file_in, IsPlace};
+ghost use Rattle.sl_io.specs.Held.{stored, file_in, IsNumberOf};
 ghost use Rattle.sl_io.specs.Put.{OnDone, OnPutFailed, OnPutMemory, UnlessPutFailed};
 
 use crate::fault_plan::FaultPlan;
@@ -51,7 +51,7 @@ impl MemShelf {
     pub fn get(&self, name: &str) -> Option<&[u8]>
         ensures { option_copied result ≡ file_in self.now.files name.now }
     {
-        match place(&self.files, name) {
+        match number_of(&self.files, name) {
             Some(i) => Some(self.files[i].1.as_slice()),
             None => None,
         }
@@ -65,10 +65,10 @@ impl MemShelf {
     }
 }
 
-// Where the first file with this name stands.
-fn place(files: &[(Name, Vec<u8>)], name: &str) -> Option<usize>
+// The number of the first file with this name, from 0.
+fn number_of(files: &[(Name, Vec<u8>)], name: &str) -> Option<usize>
     ensures { MatchOption result (file_in (map stored files.now) name.now ≡ None)
-        (IsPlace (map stored files.now) name.now) }
+        (IsNumberOf (map stored files.now) name.now) }
 {
     for (i, file) in files.iter().enumerate() {
         if file.0.as_str() == name {
@@ -90,7 +90,7 @@ fn store(
     ensures err { OnErr result (files.new.items ≡ files.old.items) }
 {
     let copy = Vec::from_slice(alloc, bytes)?;
-    match place(files, name) {
+    match number_of(files, name) {
         Some(i) => files[i].1 = copy,
         None => files.push((Name::from_text(alloc, name)?, copy))?,
     }

@@ -34,7 +34,7 @@ pub trait Shelf {
         // no fault was met, at any name, where it didn't fail
         ensures quiet { UnlessFailed result (SameCounts (faults self.old) (faults self.new)) };
 
-    /// Makes `bytes` the file of this name, in place of the one that it had.
+    /// Makes `bytes` the file of this name, instead of the one that it had.
     fn put(&mut self, alloc: Global, name: &str, bytes: &[u8]) -> Put
         ensures telling { tells self.new ≡ tells self.old }
         ensures counts { NeverFalls (faults self.old) (faults self.new) }

@@ -5,5 +5,5 @@ pub mod Operators
 pub mod Sizes
 pub mod Steps
 pub mod Unique
-pub mod Places
+pub mod Within
 pub mod OneToken

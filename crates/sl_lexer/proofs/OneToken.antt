@@ -28,7 +28,7 @@ use Rattle.sl_lexer.specs.TextLiteral.{text_end, text_in}
 use Rattle.sl_lexer.specs.Piece.{keyword, mark, run, by_keyword, by_mark, fraction, wrong_number, by_literal, by_end, by_comment, by_class, piece_at}
 use Rattle.sl_lexer.specs.Lex.{token_at, is_low, Front, start, blank, token}
 use Rattle.sl_lexer.specs.Forms.{IsOne, is_more, is_word, all_go_on, is_operators, is_digits, IsQuoted, IsSingle, IsForm}
-use Rattle.sl_lexer.proofs.Places.{IsIn, front_in}
+use Rattle.sl_lexer.proofs.Within.{IsIn, front_in}
 use Rattle.sl_lexer.proofs.Sizes.{piece_within}
 use Rattle.sl_lexer.proofs.Unique.{order}
 

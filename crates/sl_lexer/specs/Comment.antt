@@ -3,10 +3,12 @@ use Rattle.std.specs.Prelude.{◌≡◌, ℕ, ◌+◌, ◌-◌, ◌==◌, ◌&&�
 use Rattle.std.specs.Option.{option_map}
 use Rattle.sl_lexer.specs.Characters.{first}
 
+-- the two are `/*`
 abbrev pub opens : ℕ → Option ℕ → Bool
 opens c None = false
 opens c (Some d) = (c == 47) && (d == 42)
 
+-- the two are `*/`
 abbrev pub closes : ℕ → Option ℕ → Bool
 closes c None = false
 closes c (Some d) = (c == 42) && (d == 47)

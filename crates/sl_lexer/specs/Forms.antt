@@ -17,6 +17,7 @@ use Rattle.sl_lexer.specs.Lex.{token_at, Lex}
 abbrev pub IsOne : TokenKind → List ℕ → Type 0
 IsOne kind text = Lex text (token_at kind 0 (length text) ∷ [])
 
+-- there is a character
 abbrev pub is_more : List ℕ → Bool
 is_more [] = false
 is_more (c ∷ a) = true
@@ -26,11 +27,12 @@ abbrev pub is_word : List ℕ → Bool
 is_word [] = false
 is_word (c ∷ a) = (is_xid_start c || ((c == 95) && is_more a)) && list_all is_xid_continue a
 
--- operator characters, at none of which a comment begins
+-- operator characters or none, at none of which a comment begins
 abbrev pub all_go_on : List ℕ → Bool
 all_go_on [] = true
 all_go_on (c ∷ a) = goes_on c (first a) && all_go_on a
 
+-- one or more operator characters, at none of which a comment begins
 abbrev pub is_operators : List ℕ → Bool
 is_operators [] = false
 is_operators (c ∷ a) = all_go_on (c ∷ a)

@@ -9,9 +9,11 @@ use Rattle.sl_lexer.specs.declared.fault.LexKind.TheVariants.{TooMany}
 use Rattle.sl_lexer.specs.declared.piece.Piece.TheVariants as piece
 use Rattle.sl_lexer.specs.Piece.{piece_at}
 
+-- a token of so many characters from an offset on
 abbrev pub token_at : TokenKind → ℕ → ℕ → Token
 token_at kind at n = record { kind = kind; span = record { from = at; to = at + n } }
 
+-- the token is a name
 abbrev pub is_name : TokenKind → Bool
 is_name (kind.Id name) = true
 is_name other = false
@@ -25,7 +27,7 @@ abbrev pub most : ℕ
 most = 262144
 
 -- The first `at` characters of a text can be read into these tokens. `low`: the last of them is a name that ends in `_`,
--- directly before the place.
+-- directly before `at`.
 pub data Front (text : List ℕ) : List Token → Bool → ℕ → Type 0 where
   start : Front text [] false 0
   blank : {tokens : List Token} {low : Bool} {at n : ℕ}

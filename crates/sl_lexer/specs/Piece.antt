@@ -1,4 +1,4 @@
--- What stands at a place of a text: white space, a comment, a token or a fault (SLS 1). Faults come first: a piece is a
+-- What stands at an offset of a text: white space, a comment, a token or a fault (SLS 1). Faults come first: a piece is a
 -- token only where no fault stands.
 use Rattle.std.specs.Prelude.{ℕ, ◌+◌, ◌==◌, ◌&&◌, ◌||◌, not, nat_lt, Bool, List, drop, take, length, Option, Some, None, Result, Ok, Err, if◌then◌else◌, position, encode_utf8_all}
 use Rattle.std.specs.List.{prefix_len}
@@ -22,10 +22,11 @@ use Rattle.sl_lexer.specs.Comment.{comment_len}
 use Rattle.sl_lexer.specs.TextLiteral.{text_end}
 use Rattle.sl_lexer.specs.Class.{class_of}
 
--- the number of a word among these
+-- the number of a word among the keywords (SLS 1.1)
 abbrev pub keyword : List ℕ → Option ℕ
 keyword word = position (λ other. bytes_eq other.now (encode_utf8_all word)) KEYWORD_TEXTS
 
+-- the number of a word among the marks
 abbrev pub mark : List ℕ → Option ℕ
 mark word = position (λ other. bytes_eq other.now (encode_utf8_all word)) MARK_TEXTS
 
@@ -33,7 +34,7 @@ mark word = position (λ other. bytes_eq other.now (encode_utf8_all word)) MARK_
 abbrev pub run : (ℕ → Bool) → List ℕ → ℕ
 run p a = 1 + prefix_len p (drop 1 a)
 
--- a name has at most 80 characters
+-- a keyword with this number, or a name, which has at most 80 characters
 abbrev pub by_keyword : ℕ → List ℕ → Option ℕ → Piece
 by_keyword n word None = if nat_lt 80 n then piece.Fault fault.LongText n else piece.Token (kind.Id word) n
 by_keyword n word (Some number) = piece.Token (kind.Key number) n
@@ -42,6 +43,7 @@ by_keyword n word (Some number) = piece.Token (kind.Key number) n
 abbrev pub word_piece : List ℕ → Piece
 word_piece a = let n = run is_xid_continue a in by_keyword n (take n a) (keyword (take n a))
 
+-- a mark with this number, or an operator
 abbrev pub by_mark : ℕ → List ℕ → Option ℕ → Piece
 by_mark n word None = piece.Token (kind.Op word) n
 by_mark n word (Some number) = piece.Token (kind.Mark number) n
@@ -54,12 +56,15 @@ operator_piece a = let n = 1 + operator_len (drop 1 a) in by_mark n (take n a) (
 abbrev pub fraction : List ℕ → Bool
 fraction a = is 46 (first a) && holds is_ascii_digit (first (drop 1 a))
 
+-- a wrong number goes on with the character
 abbrev pub in_number : ℕ → Bool
 in_number c = is_xid_continue c || (c == 46)
 
+-- the fault of a number, over all characters with which it goes on
 abbrev pub wrong_number : List ℕ → Piece
 wrong_number a = piece.Fault fault.Number (run in_number a)
 
+-- a number of so many characters with this value, if it has one (SLS 1.3.1)
 abbrev pub by_literal : List ℕ → ℕ → Result Numeral NumFault → Piece
 by_literal a n (Err _) = wrong_number a
 by_literal a n (Ok value) = piece.Token (kind.Number value) n
@@ -82,10 +87,12 @@ by_end a end.Open = piece.Fault fault.OpenText (1 + prefix_len (λ c. not (ends_
 abbrev pub text_piece : List ℕ → Piece
 text_piece a = if is 34 (first a) && is 34 (first (drop 1 a)) then piece.Fault fault.BadChar 1 else by_end a (text_end a)
 
+-- a comment with so many characters behind its `/*`, or the fault of one that is never closed
 abbrev pub by_comment : List ℕ → Option ℕ → Piece
 by_comment a None = piece.Fault fault.OpenComment (length a)
 by_comment a (Some n) = piece.Blank (2 + n)
 
+-- the piece in front, by what begins there
 abbrev pub by_class : Bool → Class → List ℕ → Piece
 by_class low class.White a = piece.Blank (run is_ascii_whitespace a)
 by_class low class.LineComment a = piece.Blank (run (λ c. not (c == 10)) a)
@@ -99,11 +106,12 @@ by_class low class.Operator a = if low then piece.Fault fault.BadChar 1 else ope
 by_class low (class.Single number) a = piece.Token (kind.Mark number) 1
 by_class low class.Other a = piece.Fault fault.BadChar 1
 
+-- the piece in front, by its first character
 abbrev pub piece_by : Bool → Option ℕ → List ℕ → Option Piece
 piece_by low None a = None
 piece_by low (Some c) a = Some (by_class low (class_of c (first (drop 1 a))) a)
 
--- What stands at the place from which on a text has these characters; nothing where it has none. `low`: a name that ends
+-- What stands at the offset from which on a text has these characters; nothing where it has none. `low`: a name that ends
 -- in `_` stands directly before, behind which there is no operator.
 abbrev pub piece_at : Bool → List ℕ → Option Piece
 piece_at low a = piece_by low (first a) a

@@ -7,10 +7,12 @@ use Rattle.sl_lexer.specs.declared.piece.Piece.{Piece}
 use Rattle.sl_lexer.specs.declared.piece.Piece.TheVariants as piece
 use Rattle.sl_lexer.specs.Lex as lex
 
+-- the front is one of the text, and no longer than it
 pub record IsRead (text : List ℕ) (front : Front) : Type 0 where
   pub read : lex.Front text front.tokens.items front.low front.at
   pub within : front.at ≤ length text
 
+-- why the text has no tokens: want of memory, or its fault
 abbrev pub IsCause : List ℕ → LexFault → Type 0
 IsCause text f = (f.kind ≡ Memory) ⊎ lex.Fault text f.kind f.span
 

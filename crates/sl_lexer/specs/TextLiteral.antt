@@ -26,9 +26,11 @@ named c =
 abbrev pub hex_value : ℕ → Option ℕ
 hex_value c = if is_digit c 16 then Some (digit_value c) else None
 
+-- the value of the hexadecimal digit behind so many characters
 abbrev pub hex_at : ℕ → List ℕ → Option ℕ
 hex_at i a = option_and_then hex_value (first (drop i a))
 
+-- the number that four hexadecimal digits write
 abbrev pub four : Option ℕ → Option ℕ → Option ℕ → Option ℕ → Option ℕ
 four (Some p) (Some q) (Some r) (Some s) = Some (((p * 16 + q) * 16 + r) * 16 + s)
 four p q r s = None
@@ -50,11 +52,12 @@ escaped n (Some c) = part.Char c n
 abbrev pub coded : List ℕ → Part
 coded a = let us = prefix_len (λ c. c == 117) a in escaped (us + 5) (code (drop us a))
 
--- behind a `\`
+-- what stands behind a `\`, by the first character there
 abbrev pub escape_by : Option ℕ → List ℕ → Part
 escape_by None a = part.End
 escape_by (Some c) a = if ends_line c then part.End else (if c == 117 then coded a else escaped 2 (named c))
 
+-- what stands in front, by the first character
 abbrev pub part_by : Option ℕ → List ℕ → Part
 part_by None a = part.End
 part_by (Some c) a =
@@ -62,7 +65,7 @@ part_by (Some c) a =
     (if ends_line c then part.End else
     (if c == 92 then escape_by (first (drop 1 a)) (drop 1 a) else part.Char c 1))
 
--- What stands at a place in a text literal: a character or an escape with so many characters, the closing `"`, a wrong
+-- What stands in front in a text literal: a character or an escape with so many characters, the closing `"`, a wrong
 -- escape, or the end of the line or the file, a `\` before it included.
 abbrev pub part_of : List ℕ → Part
 part_of a = part_by (first a) a
@@ -72,6 +75,7 @@ abbrev pub with_char : ℕ → ℕ → TextEnd → TextEnd
 with_char c n (end.Closed value m) = end.Closed (c ∷ value) (n + m)
 with_char c n e = e
 
+-- how a text literal ends that begins with this part, by how it ends behind so many characters
 abbrev pub by_part : (ℕ → TextEnd) → Part → TextEnd
 by_part behind (part.Char c n) = with_char c n (behind n)
 by_part behind part.Close = end.Closed [] 1

@@ -129,6 +129,7 @@ pub fn number_len(left: &[char]) -> usize
     left.iter().take_while(|c| in_number(**c)).count()
 }
 
+// Whether a wrong number goes on with the character: it continues a word or is a dot.
 fn in_number(c: char) -> bool
     ensures { result ≡ in_number c }
 {
@@ -178,6 +179,7 @@ pub fn text_of(alloc: Global, letters: &[char]) -> Result<String, AllocError>
     Ok(text)
 }
 
+// The text, by its bytes alone.
 fn spelled(alloc: Global, letters: &[char]) -> Result<String, AllocError>
     ensures { IfOk result (λ text. string_bytes text ≡ encode_utf8_all letters.now) }
 {

@@ -5,7 +5,7 @@ ghost use Rattle.sl_lexer.specs.Class as spec;
 
 use crate::characters::{continues, is, is_operator};
 
-/// What begins at a place.
+/// What may begin at an offset.
 #[derive(Clone, Copy)]
 pub enum Class {
     White,
@@ -49,7 +49,7 @@ pub fn class_of(c: char, next: Option<char>) -> Class
     }
 }
 
-// The place of the character among the marks of one character.
+// The number of the character among the marks of one character, counted from 0.
 fn single(c: char) -> Option<u8>
     ensures value { result ≡ spec.single c }
     ensures within { IfSome result (λ number. number < 9) }
@@ -68,6 +68,7 @@ fn single(c: char) -> Option<u8>
     }
 }
 
+// What begins at this character, whatever stands behind it.
 fn plain(c: char) -> Class
     ensures { result ≡ spec.plain c }
 {

@@ -42,6 +42,7 @@ fn scan(cursor: &mut Cursor<'_>) -> bool
     false
 }
 
+// Whether these two are `*/`.
 fn closes(c: char, next: Option<char>) -> bool
     ensures { result ≡ spec.closes c next }
 {
@@ -51,6 +52,7 @@ fn closes(c: char, next: Option<char>) -> bool
     }
 }
 
+// Whether these two are `/*`.
 fn opens(c: char, next: Option<char>) -> bool
     ensures { result ≡ spec.opens c next }
 {

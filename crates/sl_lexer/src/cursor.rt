@@ -5,6 +5,7 @@ ghost use Rattle.sl_lexer.specs.Characters.{first};
 
 use std::marker::Model;
 
+/// A stretch of characters that is read from its begin.
 #[derive(Drop)]
 pub struct Cursor<'a> {
     left: &'a [char],
@@ -19,18 +20,21 @@ impl<'a> Model for Cursor<'a> {
 }
 
 impl<'a> Cursor<'a> {
+    /// All of these characters.
     pub fn new(left: &'a [char]) -> Cursor<'a>
         ensures { result ≡ left.now }
     {
         Cursor { left }
     }
 
+    /// How many characters are left.
     pub fn len(&self) -> usize
         ensures { result ≡ length self.now }
     {
         self.left.len()
     }
 
+    /// The next character.
     pub fn peek(&self) -> Option<char>
         ensures { result ≡ first self.now }
     {

@@ -12,10 +12,11 @@ use sl_base::NoMemory;
 use sl_text::Span;
 use std::alloc::Global;
 
+// The most tokens that a text may have.
 const MOST_TOKENS: usize = 262_144;
 
 /// The tokens of the first `at` characters of a text. `low`: the last of them is a name that ends in `_`, directly
-/// before the place.
+/// before `at`.
 #[derive(Drop)]
 pub struct Front {
     pub tokens: Vec<Token>,
@@ -24,6 +25,7 @@ pub struct Front {
 }
 
 impl Front {
+    /// The front of no characters.
     pub fn new(alloc: Global, chars: &[char]) -> Front
         ensures { IsRead chars.now result }
     {
@@ -35,7 +37,7 @@ impl Front {
     }
 }
 
-/// Takes the piece that stands at the place.
+/// Takes the piece behind the front.
 pub fn take(chars: &[char], front: &mut Front, piece: Piece) -> Result<(), LexFault>
     requires limit { length chars.now ≤ 2 ^ 20 }
     requires read { IsRead chars.now front.old }
@@ -56,6 +58,7 @@ pub fn take(chars: &[char], front: &mut Front, piece: Piece) -> Result<(), LexFa
     }
 }
 
+// Takes a token of so many characters, unless it is one too many.
 fn take_token(
     chars: &[char],
     front: &mut Front,
@@ -89,12 +92,14 @@ fn take_token(
     }
 }
 
+// How many tokens there are.
 fn count_of(tokens: &Vec<Token>) -> usize
     ensures { result ≡ length tokens.now.items }
 {
     tokens.len()
 }
 
+// Puts a token behind the others.
 fn push(tokens: &mut Vec<Token>, token: Token) -> Result<(), NoMemory>
     ensures { OnOk result (tokens.new.items ≡ tokens.old.items ++ token ∷ []) }
 {
@@ -116,6 +121,7 @@ fn is_low(chars: &[char], kind: &TokenKind, to: usize) -> bool
     }
 }
 
+// The span of so many characters from an offset on.
 fn span_at(at: usize, count: usize) -> Span
     requires { at + count ≤ 2 ^ 20 }
     ensures from { result.from ≡ at }
@@ -127,6 +133,7 @@ fn span_at(at: usize, count: usize) -> Span
     }
 }
 
+// A fault of so many characters from an offset on.
 fn fault_at(kind: LexKind, at: usize, count: usize) -> LexFault
     requires { at + count ≤ 2 ^ 20 }
     ensures { result ≡ record { kind = kind; span = record { from = at; to = at + count } } }
@@ -137,7 +144,7 @@ fn fault_at(kind: LexKind, at: usize, count: usize) -> LexFault
     }
 }
 
-/// Want of memory at a place.
+/// Want of memory at an offset.
 pub fn no_memory(at: usize) -> LexFault
     requires { at ≤ 2 ^ 20 }
     ensures { result.kind ≡ LexKind.Memory }

@@ -23,6 +23,7 @@ impl Model for Letters {
 }
 
 impl Letters {
+    /// No characters yet.
     pub fn new(alloc: Global) -> Letters
         ensures { result ≡ [] }
     {
@@ -31,12 +32,14 @@ impl Letters {
         }
     }
 
+    /// Puts a character behind the others.
     pub fn push(&mut self, c: char) -> Result<(), AllocError>
         ensures { OnOk result (self.new ≡ self.old ++ c ∷ []) }
     {
         self.text.push(c)
     }
 
+    /// The characters as a name.
     pub fn into_name(self) -> Name
         ensures { result ≡ self }
     {

@@ -43,7 +43,7 @@ pub fn lex(alloc: Global, text: &Text) -> Result<Vec<Token>, LexFault>
     Ok(tokens_of(front))
 }
 
-// Takes the piece that stands at the place, if one does.
+// Takes the piece behind the front, unless the text ends there.
 fn step(alloc: Global, chars: &[char], front: &mut Front) -> Result<bool, LexFault>
     requires limit { length chars.now ≤ 2 ^ 20 }
     requires read { IsRead chars.now front.old }
@@ -61,6 +61,7 @@ fn step(alloc: Global, chars: &[char], front: &mut Front) -> Result<bool, LexFau
     }
 }
 
+// The tokens of the front.
 fn tokens_of(front: Front) -> Vec<Token>
     ensures { result.items ≡ front.tokens.items }
 {

@@ -3,8 +3,7 @@
 use crate::fault::LexKind;
 use sl_ast::TokenKind;
 
-/// What stands at a place, with the number of its characters: white space or a comment, a token, or a fault with its
-/// span.
+/// What stands at an offset, with the number of its characters: white space or a comment, a token, or a fault.
 #[derive(Drop)]
 pub enum Piece {
     Blank(usize),

@@ -1,4 +1,4 @@
-//! The piece at a place.
+//! The piece at an offset of a text.
 
 ghost use Rattle.std.specs.Prelude.{◌≡◌, ◌≤◌, ◌^◌, nat_lt, length, drop, IfOk, IfSome};
 ghost use Rattle.std.specs.Str.{chars};
@@ -18,6 +18,7 @@ use sl_ast::TokenKind;
 use sl_base::Name;
 use std::alloc::{AllocError, Global};
 
+// The most characters that a text literal may have.
 const LONGEST_TEXT: usize = 10_000;
 
 /// What stands in front. `low`: a name that ends in `_` stands directly before.
@@ -62,6 +63,7 @@ fn read_class(alloc: Global, low: bool, class: Class, left: &[char]) -> Result<P
     }
 }
 
+// The comment in front, or the fault of one that is never closed.
 fn comment(left: &[char]) -> Piece
     requires { length left.now ≤ 2 ^ 20 }
     ensures { result ≡ by_comment left.now (comment_len (drop 2 left.now)) }
@@ -84,6 +86,7 @@ fn text(alloc: Global, left: &[char]) -> Result<Piece, AllocError>
     Ok(ended(left, end))
 }
 
+// The text literal that ends so, or its fault.
 fn ended(left: &[char], end: TextEnd) -> Piece
     requires limit { length left.now ≤ 2 ^ 20 }
     requires within { IsClosedWithin left.now end }
@@ -102,6 +105,7 @@ fn ended(left: &[char], end: TextEnd) -> Piece
     }
 }
 
+// Whether a text literal has more characters than it may have.
 fn is_long(value: &Name) -> bool
     ensures { result ≡ nat_lt 10000 (length value.now) }
 {

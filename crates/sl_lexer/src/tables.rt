@@ -55,18 +55,20 @@ pub fn number_in(table: &[&str], text: &str) -> Option<u8>
     requires { length table.now ≤ 255 }
     ensures { result ≡ position (λ word. bytes_eq word.now text.now) table.now }
 {
-    match place_in(table, text) {
+    match index_in(table, text) {
         Some(number) => Some(number as u8),
         None => None,
     }
 }
 
-fn place_in(table: &[&str], text: &str) -> Option<usize>
+// The index of the text in the table.
+fn index_in(table: &[&str], text: &str) -> Option<usize>
     ensures { result ≡ position (λ word. bytes_eq word.now text.now) table.now }
 {
     table.iter().position(|word| same(word, text))
 }
 
+// Whether the two are one text.
 fn same(word: &str, text: &str) -> bool
     ensures { result ≡ bytes_eq word.now text.now }
 {

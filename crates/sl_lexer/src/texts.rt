@@ -10,7 +10,7 @@ use crate::letters::Letters;
 use sl_base::Name;
 use std::alloc::{AllocError, Global};
 
-/// What stands at a place in a text literal: a character with the number of characters that it takes, the closing `"`,
+/// What stands in front in a text literal: a character with the number of characters that it takes, the closing `"`,
 /// a wrong escape, or the end of the line.
 #[derive(Clone, Copy)]
 pub enum Part {
@@ -88,6 +88,7 @@ fn escape(left: &[char]) -> Part
     }
 }
 
+// An escape with so many characters, where it names one.
 fn escaped(count: usize, c: Option<char>) -> Part
     ensures { result ≡ spec.escaped count c }
 {
@@ -97,6 +98,7 @@ fn escaped(count: usize, c: Option<char>) -> Part
     }
 }
 
+// The character that a `\` and this one name.
 fn named(c: char) -> Option<char>
     ensures { result ≡ spec.named c }
 {
@@ -129,6 +131,7 @@ fn letter_len(left: &[char]) -> usize
     left.iter().take_while(|c| **c == 'u').count()
 }
 
+// The character of the four hexadecimal digits in front.
 fn code(left: &[char]) -> Option<char>
     ensures { result ≡ spec.code left.now }
 {
@@ -143,6 +146,7 @@ fn code(left: &[char]) -> Option<char>
     }
 }
 
+// The number that four hexadecimal digits write.
 fn four(p: Option<u32>, q: Option<u32>, r: Option<u32>, s: Option<u32>) -> Option<u32>
     requires p { IfSome p (λ n. n < 16) }
     requires q { IfSome q (λ n. n < 16) }
@@ -156,6 +160,7 @@ fn four(p: Option<u32>, q: Option<u32>, r: Option<u32>, s: Option<u32>) -> Optio
     }
 }
 
+// The value of the hexadecimal digit that stands behind so many characters.
 fn hex_at(i: usize, left: &[char]) -> Option<u32>
     ensures value { result ≡ spec.hex_at i left.now }
     ensures digit { IfSome result (λ n. n < 16) }

@@ -16,6 +16,7 @@ use sl_base::Name;
 use sl_num::literal;
 use std::alloc::{AllocError, Global};
 
+// The most characters that a name may have.
 const LONGEST_NAME: usize = 80;
 
 /// The keyword or the name in front.
@@ -91,6 +92,7 @@ pub fn number(alloc: Global, left: &[char]) -> Result<Piece, AllocError>
     }
 }
 
+// The fault of a number, over all characters that could continue one and dots.
 fn wrong_number(left: &[char]) -> Piece
     requires { length left.now ≤ 2 ^ 20 }
     ensures { result ≡ wrong_number left.now }

@@ -123,7 +123,7 @@ quiet_runs (inner {o = o} {t = t} {u = u} {a = a} {b = b} h i c j) s e =
     let l = quiet_runs j s e in
     (suc (k.0 + suc l.0), more (runs_from (step_open s t (head a) o h) (runs_then k.1 (more (runs_from (step_close s o u (head b) c) l.1)))))
 
--- the stack before any place
+-- the stack before any token
 runs_to : (f x : List Token) (s : List Region) → (n : ℕ) × (s' : List Region) × Runs n s (f ++ x) s' x
 runs_to [] x s = (0, s, none)
 runs_to (t ∷ f) x s = let k = runs_to f x (step s t (head (f ++ x))) in (suc k.0, k.1, more k.2)

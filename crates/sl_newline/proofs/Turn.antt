@@ -36,7 +36,7 @@ one_separated done out' done = refl
 one_separated {x = x} {last = last} (with_lines {u = u} {b = b} {out = o} i s) out' (with_lines {out = o'} {q = w} j s') =
     ap (λ (q : Option Region). inserted x q last u (head b) ++ (u ∷ o)) (one_innermost i j) ∙ ap (λ (z : List Token). inserted x w last u (head b) ++ (u ∷ z)) (one_separated s o' s')
 
--- there is one, behind each place
+-- there is one, behind each token
 sep_from : (x : List ℕ) (ts : List Token) (s : List Region) (last : Option Token) (b : List Token) → Opened ts s b → (out : List Token) × Sep x ts last b out
 sep_from x ts s last [] o = ([], done)
 sep_from x ts s last (u ∷ b) o = let i = sep_from x ts (step s u (head b)) (Some u) b (stepped ts s u b o) in (inserted x (front s) last u (head b) ++ (u ∷ i.0), with_lines (innermost o) i.1)

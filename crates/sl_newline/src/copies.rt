@@ -17,6 +17,7 @@ pub fn copy_token(alloc: Global, token: &Token) -> Result<Token, NoMemory>
     })
 }
 
+// A copy of what a token is.
 fn copy_kind(alloc: Global, kind: &TokenKind) -> Result<TokenKind, NoMemory>
     ensures { IfOk result (λ copy. copy ≡ kind.now) }
 {

@@ -7,6 +7,7 @@ ghost use Rattle.sl_newline.specs.Regions.{head, rest, head_shape};
 use sl_ast::{Shape, Token};
 use std::marker::Model;
 
+/// Tokens that are read from the first on.
 #[derive(Drop)]
 pub struct Cursor<'a> {
     left: &'a [Token],
@@ -22,12 +23,14 @@ impl<'a> Model for Cursor<'a> {
 }
 
 impl<'a> Cursor<'a> {
+    /// All of these tokens.
     pub fn new(left: &'a [Token]) -> Cursor<'a>
         ensures { result ≡ left.now }
     {
         Cursor { left }
     }
 
+    /// The next token.
     pub fn peek(&self) -> Option<&'a Token>
         ensures { option_copied result ≡ head self.now }
     {

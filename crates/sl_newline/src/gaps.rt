@@ -6,7 +6,7 @@ ghost use Rattle.sl_newline.specs.Gaps.{ends_blank, is_fresh};
 
 use sl_text::Span;
 
-/// How many newlines stand between these two places.
+/// How many newlines stand between these two spans.
 pub fn newlines_between(text: &[char], before: Span, behind: Span) -> u8
     ensures { result ≡ spec.newlines (spec.between text.now before behind) }
 {
@@ -63,6 +63,7 @@ fn is_fresh(fresh: bool, c: char) -> bool
     c == '\n' || (fresh && is_white(c))
 }
 
+// Whether the character is white space that ends no line.
 fn is_white(c: char) -> bool
     ensures { result ≡ spec.is_white c }
 {

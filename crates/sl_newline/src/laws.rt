@@ -6,8 +6,8 @@ ghost use Rattle.sl_ast.specs.declared.token.Token.{Token};
 ghost use Rattle.sl_newline.specs.declared.region.Region.{Region};
 ghost use Rattle.sl_newline.specs.Regions.{Innermost, Separated};
 
-/// One region is innermost at a place, and each list of tokens is exactly one list with newlines put in, which stands within
-/// the same characters.
+/// One region is innermost before a token, and each list of tokens is exactly one list with newlines put in, which stands
+/// within the same characters.
 pub fn separated()
     ensures region { (ts b : List Token) (q r : Option Region) → Innermost ts b q → Innermost ts b r → q ≡ r }
     ensures some { (text : List ℕ) (ts : List Token) → (out : List Token) × Separated text ts out }

@@ -38,6 +38,7 @@ pub fn put_before(
     }
 }
 
+// Puts so many newlines at the end, at most two.
 fn put_lines(found: &mut Vec<Token>, at: u32, count: u8) -> Result<(), NoMemory>
     ensures ok { OnOk result (found.new.items ≡ found.old.items ++ spec.lines_of at count) }
 {
@@ -51,6 +52,7 @@ fn put_lines(found: &mut Vec<Token>, at: u32, count: u8) -> Result<(), NoMemory>
     push(found, newline_at(at))
 }
 
+// A newline, with the empty span at an offset.
 fn newline_at(at: u32) -> Token
     ensures { result ≡ spec.newline_at at }
 {

@@ -7,6 +7,7 @@ use crate::region::Region;
 use std::alloc::{AllocError, Global};
 use std::marker::Model;
 
+/// The regions that are open.
 #[derive(Drop)]
 pub struct Stack {
     front: Option<Region>,
@@ -25,6 +26,7 @@ impl Model for Stack {
 }
 
 impl Stack {
+    /// No region yet.
     pub fn new(alloc: Global) -> Stack
         ensures { result ≡ [] }
     {
@@ -34,18 +36,21 @@ impl Stack {
         }
     }
 
+    /// The innermost region, if one is open.
     pub fn front(&self) -> Option<Region>
         ensures { result ≡ spec.front self.now }
     {
         self.front
     }
 
+    /// Closes the innermost region.
     pub fn pop(&mut self)
         ensures { self.new ≡ spec.pop self.old }
     {
         self.front = self.below.pop();
     }
 
+    /// Opens a region inside the others.
     pub fn push(&mut self, region: Region) -> Result<(), AllocError>
         ensures ok { OnOk result (self.new ≡ region ∷ self.old) }
     {

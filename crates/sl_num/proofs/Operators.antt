@@ -55,7 +55,7 @@ shl-left_shift w width a b k f g is few =
     shl-signed w width a k f few
     ∙ ap (λ n. signed (bits w) (a *ℤ pos (2 ^ n))) (is ∙ ap (shift_distance (bits w)) (to_z-of_z w b g))
 
--- r has the bits u, those of a, moved right k places
+-- r has the bits u, those of a, moved right by k
 pub shr-unsigned_right_shift : (w : Width) (width : IsRead w) (a b r : ℤ) (u k : ℕ) → FitsSigned w a → FitsSigned w b → FitsSigned w r
     → u ≡ cast_unsigned w (cast_signed w (cast_unsigned w a)) → k ≡ shift_distance (bits w) (cast_signed w (cast_unsigned w b))
     → r ≡ cast_signed w (u / 2 ^ k) → cast_signed w (cast_unsigned w r) ≡ unsigned_right_shift (bits w) a b

@@ -22,7 +22,7 @@ pub fn int(op: IntOp, a: i32, b: i32) -> i32
     }
 }
 
-// How many places a shift by `b` moves the bits.
+// How far a shift by `b` moves the bits.
 fn shift_count(b: i32) -> u32
     ensures value { result ≡ shift_count b }
     ensures below { result < 32 }

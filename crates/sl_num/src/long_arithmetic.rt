@@ -22,7 +22,7 @@ pub fn long(op: IntOp, a: i64, b: i64) -> i64
     }
 }
 
-// How many places a shift by `b` moves the bits.
+// How far a shift by `b` moves the bits.
 fn shift_count(b: i64) -> u64
     ensures value { result ≡ long_shift_count b }
     ensures below { result < 64 }

@@ -64,10 +64,12 @@ abbrev pub of_operator : List ℕ → Ahead
 of_operator (b ∷ []) = if b == 45 then k.Minus else if b == 124 then k.Bar else if (b == 43) || (b == 33) || (b == 126) then k.Sign else k.Op
 of_operator text = k.Op
 
+-- of a token of this kind
 abbrev pub of_kind : TokenKind → Ahead
 of_kind (kind.Op text) = of_operator (encode_utf8_all text)
 of_kind other = of_shape (shape other)
 
+-- what a rule sees of a token
 unfoldable pub sort : Token → Ahead
 sort t = of_kind t.kind
 
@@ -122,5 +124,6 @@ code k.Comma = 45
 code k.Dot = 46
 code k.Other = 47
 
+-- the two are one
 abbrev pub same : Ahead → Ahead → Bool
 same a b = code a == code b

@@ -35,6 +35,7 @@ use Rattle.sl_parse_expr.specs.Starts.{begins_stat, is_operator}
 use Rattle.sl_parse_expr.specs.LastNew.{stat_ends_in_new}
 use Rattle.sl_parse_expr.specs.Phrases.{IsOne, IsWord, IsMore, IsListed, IsOption, IsLines, IsLine, IsSemi, IsSeq}
 
+-- id
 abbrev pub IsName : Ident → List Token → List Token → Type 0
 IsName = IsOne ident_of
 

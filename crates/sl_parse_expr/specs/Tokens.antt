@@ -20,6 +20,7 @@ use Rattle.sl_parse_expr.specs.declared.ahead.Ahead.{Ahead}
 use Rattle.sl_parse_expr.specs.declared.ahead.Ahead.TheVariants as see
 use Rattle.sl_parse_expr.specs.Ahead.{sort, same}
 
+-- a name at this span, of a token of this kind
 abbrev pub ident_by : TokenKind → Span → Option Ident
 ident_by (kind.Id name) s = Some (record { name = name; span = s })
 ident_by other s = None
@@ -28,6 +29,7 @@ ident_by other s = None
 unfoldable pub ident_of : Token → Option Ident
 ident_of t = ident_by t.kind t.span
 
+-- an operator at this span, of a token of this kind
 abbrev pub operator_by : TokenKind → Span → Option Operator
 operator_by (kind.Id name) s = Some (operator.Id (record { name = name; span = s }))
 operator_by (kind.Op name) s = Some (operator.Op (record { name = name; span = s }))
@@ -42,19 +44,23 @@ abbrev pub sign_text : List ℕ → Span → Option (Sign × Span)
 sign_text (b ∷ []) s = if b == 45 then Some (sign.Minus, s) else if b == 43 then Some (sign.Plus, s) else if b == 33 then Some (sign.Not, s) else if b == 126 then Some (sign.Complement, s) else None
 sign_text text s = None
 
+-- an operator before its operand, of a token of this kind
 abbrev pub sign_by : TokenKind → Span → Option (Sign × Span)
 sign_by (kind.Op text) s = sign_text (encode_utf8_all text) s
 sign_by other s = None
 
+-- an operator before its operand
 unfoldable pub sign_of : Token → Option (Sign × Span)
 sign_of t = sign_by t.kind t.span
 
+-- `true`, `false` or `null`
 abbrev pub literal_word : Shape → Span → Option Literal
 literal_word shapes.True s = Some (literal.True s)
 literal_word shapes.False s = Some (literal.False s)
 literal_word shapes.Null s = Some (literal.Null s)
 literal_word other s = None
 
+-- a literal at this span, of a token of this kind
 abbrev pub literal_by : TokenKind → Span → Option Literal
 literal_by (kind.Number value) s = Some (literal.Number value s)
 literal_by (kind.Text content) s = Some (literal.Text content s)
@@ -64,6 +70,7 @@ literal_by other s = literal_word (shape other) s
 unfoldable pub literal_of : Token → Option Literal
 literal_of t = literal_by t.kind t.span
 
+-- `val` or `var` at this span
 abbrev pub binding_by : Ahead → Span → Option (Binding × Span)
 binding_by see.Val s = Some (binding.Val, s)
 binding_by see.Var s = Some (binding.Var, s)
@@ -77,5 +84,6 @@ binding_of t = binding_by (sort t) t.span
 abbrev pub separates : Ahead → Bool
 separates o = same see.Semicolon o || same see.Newline o
 
+-- a token that separates
 unfoldable pub separator_of : Token → Option (Unit {0})
 separator_of t = if separates (sort t) then Some tt else None

@@ -18,6 +18,7 @@ use sqlite_items::Boxed;
 use std::alloc::Global;
 
 impl<F: Fn(Global, &mut Cursor<'_>, usize) -> Result<Expr, Stopped>> Grammar<F> {
+    /// 'else' Expr; what was held before it goes away.
     #[tactic(auto, unfolding(crate::specs::Rules::with_else, crate::specs::Reading::absorb))]
     pub fn with_else(&self, tokens: &mut Cursor<'_>) -> Result<Option<Boxed<Expr>>, Stopped>
         requires { Nests expr self.now.depth (F.pre self.now.expr) (F.post self.now.expr) }
@@ -29,6 +30,7 @@ impl<F: Fn(Global, &mut Cursor<'_>, usize) -> Result<Expr, Stopped>> Grammar<F> 
         Ok(Some(Boxed::new(self.alloc, found)?))
     }
 
+    /// An `else` behind `;` or two line ends.
     #[tactic(auto, unfolding(crate::specs::Rules::third))]
     pub fn third(&self, tokens: &mut Cursor<'_>) -> Result<Option<Boxed<Expr>>, Stopped>
         requires { Nests expr self.now.depth (F.pre self.now.expr) (F.post self.now.expr) }
@@ -41,6 +43,7 @@ impl<F: Fn(Global, &mut Cursor<'_>, usize) -> Result<Expr, Stopped>> Grammar<F> 
         }
     }
 
+    /// An `else` behind one line end, or behind two.
     #[tactic(auto, unfolding(crate::specs::Rules::second))]
     pub fn second(&self, tokens: &mut Cursor<'_>) -> Result<Option<Boxed<Expr>>, Stopped>
         requires { Nests expr self.now.depth (F.pre self.now.expr) (F.post self.now.expr) }
@@ -56,6 +59,7 @@ impl<F: Fn(Global, &mut Cursor<'_>, usize) -> Result<Expr, Stopped>> Grammar<F> 
         }
     }
 
+    /// [[semi] 'else' Expr]
     #[tactic(auto, unfolding(crate::specs::Rules::other))]
     pub fn other(&self, tokens: &mut Cursor<'_>) -> Result<Option<Boxed<Expr>>, Stopped>
         requires { Nests expr self.now.depth (F.pre self.now.expr) (F.post self.now.expr) }

@@ -19,6 +19,7 @@ use sqlite_items::Items;
 use std::alloc::Global;
 
 impl<F: Fn(Global, &mut Cursor<'_>, usize) -> Result<Expr, Stopped>> Grammar<F> {
+    /// ',' Expr
     #[tactic(auto, unfolding(crate::specs::Rules::next_arg))]
     pub fn next_arg(&self, tokens: &mut Cursor<'_>) -> Result<Expr, Stopped>
         requires { Nests expr self.now.depth (F.pre self.now.expr) (F.post self.now.expr) }
@@ -28,6 +29,7 @@ impl<F: Fn(Global, &mut Cursor<'_>, usize) -> Result<Expr, Stopped>> Grammar<F> 
         self.expr(tokens)
     }
 
+    /// ')' of an empty list, and where it stands.
     #[tactic(auto, unfolding(crate::specs::Rules::no_args))]
     pub fn no_args(&self, tokens: &mut Cursor<'_>) -> Result<(Items<Expr>, Span), Stopped>
         requires { Nests expr self.now.depth (F.pre self.now.expr) (F.post self.now.expr) }
@@ -37,6 +39,7 @@ impl<F: Fn(Global, &mut Cursor<'_>, usize) -> Result<Expr, Stopped>> Grammar<F> 
         Ok((Items::new(self.alloc), end))
     }
 
+    /// Expr {',' Expr} ')', and where the parenthesis stands.
     #[tactic(auto, unfolding(crate::specs::Rules::some_args))]
     pub fn some_args(&self, tokens: &mut Cursor<'_>) -> Result<(Items<Expr>, Span), Stopped>
         requires { Nests expr self.now.depth (F.pre self.now.expr) (F.post self.now.expr) }
@@ -50,6 +53,7 @@ impl<F: Fn(Global, &mut Cursor<'_>, usize) -> Result<Expr, Stopped>> Grammar<F> 
         Ok((args, end))
     }
 
+    /// ParArgs ::= '(' [Expr {',' Expr}] ')'
     #[tactic(auto, unfolding(crate::specs::Rules::par_args))]
     pub fn par_args(&self, tokens: &mut Cursor<'_>) -> Result<ParArgs, Stopped>
         requires { Nests expr self.now.depth (F.pre self.now.expr) (F.post self.now.expr) }
@@ -67,6 +71,7 @@ impl<F: Fn(Global, &mut Cursor<'_>, usize) -> Result<Expr, Stopped>> Grammar<F> 
         })
     }
 
+    /// {',' Expr}, behind these arguments.
     #[tactic(auto, unfolding(crate::specs::Rules::more_args))]
     pub fn more_args(
         &self,

@@ -23,6 +23,7 @@ use sqlite_items::{Boxed, Items};
 use std::alloc::Global;
 
 impl<F: Fn(Global, &mut Cursor<'_>, usize) -> Result<Expr, Stopped>> Grammar<F> {
+    /// ':' Type, as a type that is there.
     #[tactic(auto, unfolding(crate::specs::Rules::typed))]
     pub fn typed(&self, tokens: &mut Cursor<'_>) -> Result<Option<Boxed<TypeTree>>, Stopped>
         requires { Nests expr self.now.depth (F.pre self.now.expr) (F.post self.now.expr) }
@@ -33,6 +34,7 @@ impl<F: Fn(Global, &mut Cursor<'_>, usize) -> Result<Expr, Stopped>> Grammar<F> 
         Ok(Some(Boxed::new(self.alloc, found)?))
     }
 
+    /// ('val' | 'var') id [':' Type] '=' Expr
     #[tactic(auto, unfolding(crate::specs::Rules::local))]
     pub fn local(&self, tokens: &mut Cursor<'_>) -> Result<Stat, Stopped>
         requires { Nests expr self.now.depth (F.pre self.now.expr) (F.post self.now.expr) }
@@ -57,6 +59,7 @@ impl<F: Fn(Global, &mut Cursor<'_>, usize) -> Result<Expr, Stopped>> Grammar<F> 
         })
     }
 
+    /// Expr, as a statement.
     #[tactic(auto, unfolding(crate::specs::Rules::expr_as_stat))]
     pub fn expr_as_stat(&self, tokens: &mut Cursor<'_>) -> Result<Stat, Stopped>
         requires { Nests expr self.now.depth (F.pre self.now.expr) (F.post self.now.expr) }
@@ -65,6 +68,7 @@ impl<F: Fn(Global, &mut Cursor<'_>, usize) -> Result<Expr, Stopped>> Grammar<F> 
         Ok(Stat::Expr(self.expr(tokens)?))
     }
 
+    /// Stat ::= ('val' | 'var') id [':' Type] '=' Expr | Expr
     #[tactic(auto, unfolding(crate::specs::Rules::stat))]
     pub fn stat(&self, tokens: &mut Cursor<'_>) -> Result<Stat, Stopped>
         requires { Nests expr self.now.depth (F.pre self.now.expr) (F.post self.now.expr) }
@@ -77,6 +81,7 @@ impl<F: Fn(Global, &mut Cursor<'_>, usize) -> Result<Expr, Stopped>> Grammar<F> 
         }
     }
 
+    /// A separator between statements.
     #[tactic(auto, unfolding(crate::specs::Rules::apart))]
     pub fn apart(&self, tokens: &mut Cursor<'_>) -> Result<Option<(Stat, bool)>, Stopped>
         requires { Nests expr self.now.depth (F.pre self.now.expr) (F.post self.now.expr) }
@@ -86,6 +91,7 @@ impl<F: Fn(Global, &mut Cursor<'_>, usize) -> Result<Expr, Stopped>> Grammar<F> 
         Ok(None)
     }
 
+    /// A statement, and whether nothing was held behind it.
     #[tactic(auto, unfolding(crate::specs::Rules::stat_item))]
     pub fn stat_item(&self, tokens: &mut Cursor<'_>) -> Result<Option<(Stat, bool)>, Stopped>
         requires { Nests expr self.now.depth (F.pre self.now.expr) (F.post self.now.expr) }
@@ -96,6 +102,7 @@ impl<F: Fn(Global, &mut Cursor<'_>, usize) -> Result<Expr, Stopped>> Grammar<F> 
         Ok(Some((found, clean)))
     }
 
+    /// A statement, or a separator between statements.
     #[tactic(auto, unfolding(crate::specs::Rules::block_item))]
     pub fn block_item(&self, tokens: &mut Cursor<'_>) -> Result<Option<(Stat, bool)>, Stopped>
         requires { Nests expr self.now.depth (F.pre self.now.expr) (F.post self.now.expr) }
@@ -108,6 +115,7 @@ impl<F: Fn(Global, &mut Cursor<'_>, usize) -> Result<Expr, Stopped>> Grammar<F> 
         }
     }
 
+    /// Seq(Stat)
     #[tactic(auto, unfolding(crate::specs::Rules::stats))]
     pub fn stats(&self, tokens: &mut Cursor<'_>) -> Result<(bool, Items<Stat>), Stopped>
         requires { Nests expr self.now.depth (F.pre self.now.expr) (F.post self.now.expr) }
@@ -127,6 +135,7 @@ impl<F: Fn(Global, &mut Cursor<'_>, usize) -> Result<Expr, Stopped>> Grammar<F> 
         Ok((apart, found))
     }
 
+    /// Block ::= Seq(Stat)
     #[tactic(auto, unfolding(crate::specs::Rules::block, crate::specs::Reading::absorb))]
     pub fn block(&self, tokens: &mut Cursor<'_>) -> Result<Block, Stopped>
         requires { Nests expr self.now.depth (F.pre self.now.expr) (F.post self.now.expr) }
@@ -137,6 +146,7 @@ impl<F: Fn(Global, &mut Cursor<'_>, usize) -> Result<Expr, Stopped>> Grammar<F> 
         Ok(Block { stats })
     }
 
+    /// '{' Block '}', and where it stands.
     #[tactic(auto, unfolding(crate::specs::Rules::braces))]
     pub fn braces(&self, tokens: &mut Cursor<'_>) -> Result<(Block, Span), Stopped>
         requires { Nests expr self.now.depth (F.pre self.now.expr) (F.post self.now.expr) }

@@ -20,6 +20,7 @@ use sqlite_items::{Boxed, Items};
 use std::alloc::Global;
 
 impl<F: Fn(Global, &mut Cursor<'_>, usize) -> Result<Expr, Stopped>> Grammar<F> {
+    /// 'if' Infix
     #[tactic(auto, unfolding(crate::specs::Rules::guarded))]
     pub fn guarded(&self, tokens: &mut Cursor<'_>) -> Result<Option<Boxed<Infix>>, Stopped>
         requires { Nests expr self.now.depth (F.pre self.now.expr) (F.post self.now.expr) }
@@ -30,6 +31,7 @@ impl<F: Fn(Global, &mut Cursor<'_>, usize) -> Result<Expr, Stopped>> Grammar<F> 
         Ok(Some(Boxed::new(self.alloc, found)?))
     }
 
+    /// Case ::= 'case' Pattern ['if' Infix] '=>' Block
     #[tactic(auto, unfolding(crate::specs::Rules::case_reader))]
     pub fn case_reader(&self, tokens: &mut Cursor<'_>) -> Result<Case, Stopped>
         requires { Nests expr self.now.depth (F.pre self.now.expr) (F.post self.now.expr) }
@@ -53,6 +55,7 @@ impl<F: Fn(Global, &mut Cursor<'_>, usize) -> Result<Expr, Stopped>> Grammar<F> 
         })
     }
 
+    /// {Case}
     #[tactic(auto, unfolding(crate::specs::Rules::more_cases))]
     pub fn more_cases(&self, tokens: &mut Cursor<'_>) -> Result<Items<Case>, Stopped>
         requires { Nests expr self.now.depth (F.pre self.now.expr) (F.post self.now.expr) }
@@ -65,6 +68,7 @@ impl<F: Fn(Global, &mut Cursor<'_>, usize) -> Result<Expr, Stopped>> Grammar<F> 
         Ok(found)
     }
 
+    /// '{' Cases '}', and where the brace stands that closes it.
     #[tactic(auto, unfolding(crate::specs::Rules::cases))]
     pub fn cases(&self, tokens: &mut Cursor<'_>) -> Result<(Cases, Span), Stopped>
         requires { Nests expr self.now.depth (F.pre self.now.expr) (F.post self.now.expr) }

@@ -20,6 +20,7 @@ use sqlite_items::Boxed;
 use std::alloc::Global;
 
 impl<F: Fn(Global, &mut Cursor<'_>, usize) -> Result<Expr, Stopped>> Grammar<F> {
+    /// '(' Expr ')' {nl}
     #[tactic(auto, unfolding(crate::specs::Rules::condition))]
     pub fn condition(&self, tokens: &mut Cursor<'_>) -> Result<Expr, Stopped>
         requires { Nests expr self.now.depth (F.pre self.now.expr) (F.post self.now.expr) }
@@ -32,6 +33,7 @@ impl<F: Fn(Global, &mut Cursor<'_>, usize) -> Result<Expr, Stopped>> Grammar<F> 
         Ok(found)
     }
 
+    /// 'if' '(' Expr ')' {nl} Expr [[semi] 'else' Expr]
     #[tactic(auto, unfolding(crate::specs::Rules::if_expr))]
     pub fn if_expr(&self, tokens: &mut Cursor<'_>) -> Result<Expr, Stopped>
         requires { Nests expr self.now.depth (F.pre self.now.expr) (F.post self.now.expr) }
@@ -50,6 +52,7 @@ impl<F: Fn(Global, &mut Cursor<'_>, usize) -> Result<Expr, Stopped>> Grammar<F> 
         })
     }
 
+    /// 'while' '(' Expr ')' {nl} Expr
     #[tactic(auto, unfolding(crate::specs::Rules::while_expr))]
     pub fn while_expr(&self, tokens: &mut Cursor<'_>) -> Result<Expr, Stopped>
         requires { Nests expr self.now.depth (F.pre self.now.expr) (F.post self.now.expr) }
@@ -66,6 +69,7 @@ impl<F: Fn(Global, &mut Cursor<'_>, usize) -> Result<Expr, Stopped>> Grammar<F> 
         })
     }
 
+    /// 'catch' '{' Cases '}'
     #[tactic(auto, unfolding(crate::specs::Rules::handler))]
     pub fn handler(&self, tokens: &mut Cursor<'_>) -> Result<Option<(Cases, Span)>, Stopped>
         requires { Nests expr self.now.depth (F.pre self.now.expr) (F.post self.now.expr) }
@@ -75,6 +79,7 @@ impl<F: Fn(Global, &mut Cursor<'_>, usize) -> Result<Expr, Stopped>> Grammar<F> 
         Ok(Some(self.cases(tokens)?))
     }
 
+    /// 'finally' Expr
     #[tactic(auto, unfolding(crate::specs::Rules::finalizer))]
     pub fn finalizer(&self, tokens: &mut Cursor<'_>) -> Result<Option<Boxed<Expr>>, Stopped>
         requires { Nests expr self.now.depth (F.pre self.now.expr) (F.post self.now.expr) }
@@ -85,6 +90,7 @@ impl<F: Fn(Global, &mut Cursor<'_>, usize) -> Result<Expr, Stopped>> Grammar<F> 
         Ok(Some(Boxed::new(self.alloc, found)?))
     }
 
+    /// 'try' Expr ['catch' '{' Cases '}'] ['finally' Expr]
     #[tactic(auto, unfolding(crate::specs::Rules::try_expr))]
     pub fn try_expr(&self, tokens: &mut Cursor<'_>) -> Result<Expr, Stopped>
         requires { Nests expr self.now.depth (F.pre self.now.expr) (F.post self.now.expr) }
@@ -112,6 +118,7 @@ impl<F: Fn(Global, &mut Cursor<'_>, usize) -> Result<Expr, Stopped>> Grammar<F> 
         })
     }
 
+    /// 'throw' Expr
     #[tactic(auto, unfolding(crate::specs::Rules::throw_expr))]
     pub fn throw_expr(&self, tokens: &mut Cursor<'_>) -> Result<Expr, Stopped>
         requires { Nests expr self.now.depth (F.pre self.now.expr) (F.post self.now.expr) }
@@ -126,6 +133,7 @@ impl<F: Fn(Global, &mut Cursor<'_>, usize) -> Result<Expr, Stopped>> Grammar<F> 
         })
     }
 
+    /// 'match' '{' Cases '}', behind an infix expression.
     #[tactic(auto, unfolding(crate::specs::Rules::match_behind))]
     pub fn match_behind(&self, tokens: &mut Cursor<'_>, of: Infix) -> Result<Expr, Stopped>
         requires { Nests expr self.now.depth (F.pre self.now.expr) (F.post self.now.expr) }
@@ -141,6 +149,7 @@ impl<F: Fn(Global, &mut Cursor<'_>, usize) -> Result<Expr, Stopped>> Grammar<F> 
         })
     }
 
+    /// '=' Expr, behind an infix expression.
     #[tactic(auto, unfolding(crate::specs::Rules::assign_behind))]
     pub fn assign_behind(&self, tokens: &mut Cursor<'_>, to: Infix) -> Result<Expr, Stopped>
         requires { Nests expr self.now.depth (F.pre self.now.expr) (F.post self.now.expr) }
@@ -156,6 +165,7 @@ impl<F: Fn(Global, &mut Cursor<'_>, usize) -> Result<Expr, Stopped>> Grammar<F> 
         })
     }
 
+    /// 'match' '{' Cases '}' | '=' Expr, behind an infix expression.
     #[tactic(auto, unfolding(crate::specs::Rules::behind_infix))]
     pub fn behind_infix(&self, tokens: &mut Cursor<'_>, tree: Infix) -> Result<Expr, Stopped>
         requires { Nests expr self.now.depth (F.pre self.now.expr) (F.post self.now.expr) }
@@ -168,6 +178,7 @@ impl<F: Fn(Global, &mut Cursor<'_>, usize) -> Result<Expr, Stopped>> Grammar<F> 
         }
     }
 
+    /// Infix ['match' '{' Cases '}' | '=' Expr]
     #[tactic(auto, unfolding(crate::specs::Rules::plain))]
     pub fn plain(&self, tokens: &mut Cursor<'_>) -> Result<Expr, Stopped>
         requires { Nests expr self.now.depth (F.pre self.now.expr) (F.post self.now.expr) }
@@ -181,6 +192,7 @@ impl<F: Fn(Global, &mut Cursor<'_>, usize) -> Result<Expr, Stopped>> Grammar<F> 
         }
     }
 
+    /// Expr, over the expressions inside.
     #[tactic(auto, unfolding(crate::specs::Rules::any))]
     pub fn any(&self, tokens: &mut Cursor<'_>) -> Result<Expr, Stopped>
         requires { Nests expr self.now.depth (F.pre self.now.expr) (F.post self.now.expr) }

@@ -23,6 +23,7 @@ use sqlite_items::Boxed;
 use std::alloc::Global;
 
 impl<F: Fn(Global, &mut Cursor<'_>, usize) -> Result<Expr, Stopped>> Grammar<F> {
+    /// literal
     #[tactic(auto, unfolding(crate::specs::Rules::literal_start))]
     pub fn literal_start(&self, tokens: &mut Cursor<'_>) -> Result<(Head, bool), Stopped>
         requires { Nests expr self.now.depth (F.pre self.now.expr) (F.post self.now.expr) }
@@ -31,6 +32,7 @@ impl<F: Fn(Global, &mut Cursor<'_>, usize) -> Result<Expr, Stopped>> Grammar<F> 
         Ok((Head::Literal(literal(self.alloc, tokens)?), true))
     }
 
+    /// id
     #[tactic(auto, unfolding(crate::specs::Rules::name_start))]
     pub fn name_start(&self, tokens: &mut Cursor<'_>) -> Result<(Head, bool), Stopped>
         requires { Nests expr self.now.depth (F.pre self.now.expr) (F.post self.now.expr) }
@@ -39,6 +41,7 @@ impl<F: Fn(Global, &mut Cursor<'_>, usize) -> Result<Expr, Stopped>> Grammar<F> 
         Ok((Head::Id(name(self.alloc, tokens)?), true))
     }
 
+    /// 'this'
     #[tactic(auto, unfolding(crate::specs::Rules::this_start))]
     pub fn this_start(&self, tokens: &mut Cursor<'_>) -> Result<(Head, bool), Stopped>
         requires { Nests expr self.now.depth (F.pre self.now.expr) (F.post self.now.expr) }
@@ -47,6 +50,7 @@ impl<F: Fn(Global, &mut Cursor<'_>, usize) -> Result<Expr, Stopped>> Grammar<F> 
         Ok((Head::This(expect(tokens, Ahead::This)?), true))
     }
 
+    /// 'super' '.' id
     #[tactic(auto, unfolding(crate::specs::Rules::super_start))]
     pub fn super_start(&self, tokens: &mut Cursor<'_>) -> Result<(Head, bool), Stopped>
         requires { Nests expr self.now.depth (F.pre self.now.expr) (F.post self.now.expr) }
@@ -59,6 +63,7 @@ impl<F: Fn(Global, &mut Cursor<'_>, usize) -> Result<Expr, Stopped>> Grammar<F> 
         Ok((Head::Super { member, span }, true))
     }
 
+    /// ParArgs, as arguments that are there.
     #[tactic(auto, unfolding(crate::specs::Rules::new_args))]
     pub fn new_args(&self, tokens: &mut Cursor<'_>) -> Result<Option<ParArgs>, Stopped>
         requires { Nests expr self.now.depth (F.pre self.now.expr) (F.post self.now.expr) }
@@ -67,6 +72,7 @@ impl<F: Fn(Global, &mut Cursor<'_>, usize) -> Result<Expr, Stopped>> Grammar<F> 
         Ok(Some(self.par_args(tokens)?))
     }
 
+    /// 'new' id [ParArgs]
     #[tactic(auto, unfolding(crate::specs::Rules::new_start))]
     pub fn new_start(&self, tokens: &mut Cursor<'_>) -> Result<(Head, bool), Stopped>
         requires { Nests expr self.now.depth (F.pre self.now.expr) (F.post self.now.expr) }
@@ -85,6 +91,7 @@ impl<F: Fn(Global, &mut Cursor<'_>, usize) -> Result<Expr, Stopped>> Grammar<F> 
         Ok((Head::New { class, args, span }, false))
     }
 
+    /// ')' of empty parentheses, and where it stands.
     #[tactic(auto, unfolding(crate::specs::Rules::nothing_inside))]
     pub fn nothing_inside(
         &self,
@@ -97,6 +104,7 @@ impl<F: Fn(Global, &mut Cursor<'_>, usize) -> Result<Expr, Stopped>> Grammar<F> 
         Ok((None, end))
     }
 
+    /// Expr ')', and where the parenthesis stands.
     #[tactic(auto, unfolding(crate::specs::Rules::expr_inside))]
     pub fn expr_inside(
         &self,
@@ -110,6 +118,7 @@ impl<F: Fn(Global, &mut Cursor<'_>, usize) -> Result<Expr, Stopped>> Grammar<F> 
         Ok((Some(Boxed::new(self.alloc, found)?), end))
     }
 
+    /// '(' [Expr] ')'
     #[tactic(auto, unfolding(crate::specs::Rules::parens_start))]
     pub fn parens_start(&self, tokens: &mut Cursor<'_>) -> Result<(Head, bool), Stopped>
         requires { Nests expr self.now.depth (F.pre self.now.expr) (F.post self.now.expr) }
@@ -125,6 +134,7 @@ impl<F: Fn(Global, &mut Cursor<'_>, usize) -> Result<Expr, Stopped>> Grammar<F> 
         Ok((Head::Parens { of, span }, true))
     }
 
+    /// '{' Block '}'
     #[tactic(auto, unfolding(crate::specs::Rules::block_start))]
     pub fn block_start(&self, tokens: &mut Cursor<'_>) -> Result<(Head, bool), Stopped>
         requires { Nests expr self.now.depth (F.pre self.now.expr) (F.post self.now.expr) }
@@ -134,6 +144,7 @@ impl<F: Fn(Global, &mut Cursor<'_>, usize) -> Result<Expr, Stopped>> Grammar<F> 
         Ok((Head::Block { block, span }, false))
     }
 
+    /// Head, and whether all suffixes may follow at once.
     #[tactic(auto, unfolding(crate::specs::Rules::start))]
     pub fn start(&self, tokens: &mut Cursor<'_>) -> Result<(Head, bool), Stopped>
         requires { Nests expr self.now.depth (F.pre self.now.expr) (F.post self.now.expr) }

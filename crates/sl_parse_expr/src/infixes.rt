@@ -19,6 +19,7 @@ use sqlite_items::Items;
 use std::alloc::Global;
 
 impl<F: Fn(Global, &mut Cursor<'_>, usize) -> Result<Expr, Stopped>> Grammar<F> {
+    /// ('-' | '+' | '!' | '~') Simple
     #[tactic(auto, unfolding(crate::specs::Rules::signed))]
     pub fn signed(&self, tokens: &mut Cursor<'_>) -> Result<Prefix, Stopped>
         requires { Nests expr self.now.depth (F.pre self.now.expr) (F.post self.now.expr) }
@@ -34,6 +35,7 @@ impl<F: Fn(Global, &mut Cursor<'_>, usize) -> Result<Expr, Stopped>> Grammar<F> 
         })
     }
 
+    /// Simple
     #[tactic(auto, unfolding(crate::specs::Rules::unsigned))]
     pub fn unsigned(&self, tokens: &mut Cursor<'_>) -> Result<Prefix, Stopped>
         requires { Nests expr self.now.depth (F.pre self.now.expr) (F.post self.now.expr) }
@@ -48,6 +50,7 @@ impl<F: Fn(Global, &mut Cursor<'_>, usize) -> Result<Expr, Stopped>> Grammar<F> 
         })
     }
 
+    /// Prefix ::= ['-' | '+' | '!' | '~'] Simple
     #[tactic(auto, unfolding(crate::specs::Rules::prefix))]
     pub fn prefix(&self, tokens: &mut Cursor<'_>) -> Result<Prefix, Stopped>
         requires { Nests expr self.now.depth (F.pre self.now.expr) (F.post self.now.expr) }
@@ -60,6 +63,7 @@ impl<F: Fn(Global, &mut Cursor<'_>, usize) -> Result<Expr, Stopped>> Grammar<F> 
         }
     }
 
+    /// nl Prefix
     #[tactic(auto, unfolding(crate::specs::Rules::line_operand))]
     pub fn line_operand(&self, tokens: &mut Cursor<'_>) -> Result<Prefix, Stopped>
         requires { Nests expr self.now.depth (F.pre self.now.expr) (F.post self.now.expr) }
@@ -69,6 +73,7 @@ impl<F: Fn(Global, &mut Cursor<'_>, usize) -> Result<Expr, Stopped>> Grammar<F> 
         self.prefix(tokens)
     }
 
+    /// [nl] Prefix
     #[tactic(auto, unfolding(crate::specs::Rules::operand))]
     pub fn operand(&self, tokens: &mut Cursor<'_>) -> Result<Prefix, Stopped>
         requires { Nests expr self.now.depth (F.pre self.now.expr) (F.post self.now.expr) }
@@ -81,6 +86,7 @@ impl<F: Fn(Global, &mut Cursor<'_>, usize) -> Result<Expr, Stopped>> Grammar<F> 
         }
     }
 
+    /// op [nl] Prefix
     #[tactic(auto, unfolding(crate::specs::Rules::operation))]
     pub fn operation(&self, tokens: &mut Cursor<'_>) -> Result<Operation, Stopped>
         requires { Nests expr self.now.depth (F.pre self.now.expr) (F.post self.now.expr) }
@@ -91,6 +97,7 @@ impl<F: Fn(Global, &mut Cursor<'_>, usize) -> Result<Expr, Stopped>> Grammar<F> 
         Ok(Operation { operator, operand })
     }
 
+    /// {op [nl] Prefix}
     #[tactic(auto, unfolding(crate::specs::Rules::operations))]
     pub fn operations(&self, tokens: &mut Cursor<'_>) -> Result<Items<Operation>, Stopped>
         requires { Nests expr self.now.depth (F.pre self.now.expr) (F.post self.now.expr) }
@@ -103,6 +110,7 @@ impl<F: Fn(Global, &mut Cursor<'_>, usize) -> Result<Expr, Stopped>> Grammar<F> 
         Ok(found)
     }
 
+    /// Infix ::= Prefix {op [nl] Prefix}
     #[tactic(auto, unfolding(crate::specs::Rules::infix_expr))]
     pub fn infix_expr(&self, tokens: &mut Cursor<'_>) -> Result<Infix, Stopped>
         requires { Nests expr self.now.depth (F.pre self.now.expr) (F.post self.now.expr) }

@@ -9,6 +9,7 @@ use crate::cursor::{Cursor, Waiting};
 use crate::stopped::Stopped;
 use crate::tokens::expect;
 
+// That no brace is ahead.
 #[tactic(auto, unfolding(crate::specs::Rules::no_brace))]
 fn no_brace(tokens: &mut Cursor<'_>) -> Result<(), Stopped>
     ensures { Reads (spec.no_brace tokens.old) result tokens.new }
@@ -20,6 +21,7 @@ fn no_brace(tokens: &mut Cursor<'_>) -> Result<(), Stopped>
     }
 }
 
+// A line end, behind which no brace may stand.
 #[tactic(auto, unfolding(crate::specs::Rules::bare_line))]
 fn bare_line(tokens: &mut Cursor<'_>) -> Result<bool, Stopped>
     ensures { Reads (spec.bare_line tokens.old) result tokens.new }
@@ -50,6 +52,7 @@ fn behind_bare(tokens: &mut Cursor<'_>, held: Waiting) -> Result<bool, Stopped>
     }
 }
 
+// What is held behind a bare `new` goes away, and whether nothing was.
 #[tactic(auto, unfolding(crate::specs::Rules::behind_new, crate::specs::Reading::settle))]
 fn behind_new(tokens: &mut Cursor<'_>) -> Result<bool, Stopped>
     ensures { Reads (spec.behind_new tokens.old) result tokens.new }

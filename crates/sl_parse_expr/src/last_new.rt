@@ -38,6 +38,7 @@ pub fn ends_in_new(expr: &Expr) -> bool
     }
 }
 
+// Whether an infix expression ends in a bare `new`.
 #[tactic(auto)]
 fn infix_ends_in_new(tree: &Infix) -> bool
     ensures { result ≡ spec.infix_ends_in_new tree.now }
@@ -48,6 +49,7 @@ fn infix_ends_in_new(tree: &Infix) -> bool
     }
 }
 
+// Whether a prefix expression ends in a bare `new`.
 #[tactic(auto, unfolding(crate::specs::LastNew::prefix_ends_in_new))]
 fn prefix_ends_in_new(prefix: &Prefix) -> bool
     ensures { result ≡ spec.prefix_ends_in_new prefix.now }

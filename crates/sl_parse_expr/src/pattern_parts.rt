@@ -18,6 +18,7 @@ use sqlite_items::{Boxed, Items};
 use std::alloc::Global;
 
 impl<F: Fn(Global, &mut Cursor<'_>, usize) -> Result<Pattern, Stopped>> PatternGrammar<F> {
+    /// ',' Pattern
     #[tactic(auto, unfolding(crate::specs::PatternRules::next_part))]
     pub fn next_part(&self, tokens: &mut Cursor<'_>) -> Result<Pattern, Stopped>
         requires { Nests pattern self.now.depth (F.pre self.now.pattern) (F.post self.now.pattern) }
@@ -27,6 +28,7 @@ impl<F: Fn(Global, &mut Cursor<'_>, usize) -> Result<Pattern, Stopped>> PatternG
         self.pattern(tokens)
     }
 
+    /// ')' of an empty list, and where it stands.
     #[tactic(auto, unfolding(crate::specs::PatternRules::no_parts))]
     pub fn no_parts(&self, tokens: &mut Cursor<'_>) -> Result<(Items<Pattern>, Span), Stopped>
         requires { Nests pattern self.now.depth (F.pre self.now.pattern) (F.post self.now.pattern) }
@@ -36,6 +38,7 @@ impl<F: Fn(Global, &mut Cursor<'_>, usize) -> Result<Pattern, Stopped>> PatternG
         Ok((Items::new(self.alloc), end))
     }
 
+    /// Pattern {',' Pattern} ')', and where the parenthesis stands.
     #[tactic(auto, unfolding(crate::specs::PatternRules::some_parts))]
     pub fn some_parts(&self, tokens: &mut Cursor<'_>) -> Result<(Items<Pattern>, Span), Stopped>
         requires { Nests pattern self.now.depth (F.pre self.now.pattern) (F.post self.now.pattern) }
@@ -49,6 +52,7 @@ impl<F: Fn(Global, &mut Cursor<'_>, usize) -> Result<Pattern, Stopped>> PatternG
         Ok((parts, end))
     }
 
+    /// {',' Pattern}, behind these patterns.
     #[tactic(auto, unfolding(crate::specs::PatternRules::more_parts))]
     pub fn more_parts(
         &self,
@@ -65,6 +69,7 @@ impl<F: Fn(Global, &mut Cursor<'_>, usize) -> Result<Pattern, Stopped>> PatternG
         Ok(found)
     }
 
+    /// '(' [Pattern {',' Pattern}] ')', behind the name of a class.
     #[tactic(auto, unfolding(crate::specs::PatternRules::constructor))]
     pub fn constructor(&self, tokens: &mut Cursor<'_>, class: Ident) -> Result<PatS, Stopped>
         requires { Nests pattern self.now.depth (F.pre self.now.pattern) (F.post self.now.pattern) }
@@ -84,6 +89,7 @@ impl<F: Fn(Global, &mut Cursor<'_>, usize) -> Result<Pattern, Stopped>> PatternG
         })
     }
 
+    /// '(' Pattern ')'
     #[tactic(auto, unfolding(crate::specs::PatternRules::inside))]
     pub fn inside(&self, tokens: &mut Cursor<'_>) -> Result<PatS, Stopped>
         requires { Nests pattern self.now.depth (F.pre self.now.pattern) (F.post self.now.pattern) }
@@ -98,6 +104,7 @@ impl<F: Fn(Global, &mut Cursor<'_>, usize) -> Result<Pattern, Stopped>> PatternG
         })
     }
 
+    /// '-' literal
     #[tactic(auto, unfolding(crate::specs::PatternRules::minus))]
     pub fn minus(&self, tokens: &mut Cursor<'_>) -> Result<PatS, Stopped>
         requires { Nests pattern self.now.depth (F.pre self.now.pattern) (F.post self.now.pattern) }
@@ -113,6 +120,7 @@ impl<F: Fn(Global, &mut Cursor<'_>, usize) -> Result<Pattern, Stopped>> PatternG
         })
     }
 
+    /// literal
     #[tactic(auto, unfolding(crate::specs::PatternRules::no_minus))]
     pub fn no_minus(&self, tokens: &mut Cursor<'_>) -> Result<PatS, Stopped>
         requires { Nests pattern self.now.depth (F.pre self.now.pattern) (F.post self.now.pattern) }
@@ -127,6 +135,7 @@ impl<F: Fn(Global, &mut Cursor<'_>, usize) -> Result<Pattern, Stopped>> PatternG
         })
     }
 
+    /// ['-'] literal | '(' Pattern ')'
     #[tactic(auto, unfolding(crate::specs::PatternRules::closed))]
     pub fn closed(&self, tokens: &mut Cursor<'_>) -> Result<PatS, Stopped>
         requires { Nests pattern self.now.depth (F.pre self.now.pattern) (F.post self.now.pattern) }
@@ -141,6 +150,7 @@ impl<F: Fn(Global, &mut Cursor<'_>, usize) -> Result<Pattern, Stopped>> PatternG
         }
     }
 
+    /// '_'
     #[tactic(auto, unfolding(crate::specs::PatternRules::anything))]
     pub fn anything(&self, tokens: &mut Cursor<'_>) -> Result<PatS, Stopped>
         requires { Nests pattern self.now.depth (F.pre self.now.pattern) (F.post self.now.pattern) }
@@ -149,6 +159,7 @@ impl<F: Fn(Global, &mut Cursor<'_>, usize) -> Result<Pattern, Stopped>> PatternG
         Ok(PatS::Any(expect(tokens, Ahead::Underscore)?))
     }
 
+    /// id ['(' [Pattern {',' Pattern}] ')']
     #[tactic(auto, unfolding(crate::specs::PatternRules::called))]
     pub fn called(&self, tokens: &mut Cursor<'_>) -> Result<PatS, Stopped>
         requires { Nests pattern self.now.depth (F.pre self.now.pattern) (F.post self.now.pattern) }
@@ -167,6 +178,7 @@ impl<F: Fn(Global, &mut Cursor<'_>, usize) -> Result<Pattern, Stopped>> PatternG
         }
     }
 
+    /// PatS ::= '_' | ['-'] literal | id ['(' [Pattern {',' Pattern}] ')'] | '(' Pattern ')'
     #[tactic(auto, unfolding(crate::specs::PatternRules::simple_pattern))]
     pub fn simple_pattern(&self, tokens: &mut Cursor<'_>) -> Result<PatS, Stopped>
         requires { Nests pattern self.now.depth (F.pre self.now.pattern) (F.post self.now.pattern) }

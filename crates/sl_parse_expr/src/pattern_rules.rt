@@ -19,6 +19,7 @@ use sqlite_items::Items;
 use std::alloc::Global;
 
 impl<F: Fn(Global, &mut Cursor<'_>, usize) -> Result<Pattern, Stopped>> PatternGrammar<F> {
+    /// ':' Type, behind a name or `_`.
     #[tactic(auto, unfolding(crate::specs::PatternRules::of_type))]
     pub fn of_type(&self, tokens: &mut Cursor<'_>, value: Wildcard) -> Result<Pat, Stopped>
         requires { Nests pattern self.now.depth (F.pre self.now.pattern) (F.post self.now.pattern) }
@@ -34,6 +35,7 @@ impl<F: Fn(Global, &mut Cursor<'_>, usize) -> Result<Pattern, Stopped>> PatternG
         })
     }
 
+    /// '@' PatS, behind a name.
     #[tactic(auto, unfolding(crate::specs::PatternRules::bound))]
     pub fn bound(&self, tokens: &mut Cursor<'_>, value: Ident) -> Result<Pat, Stopped>
         requires { Nests pattern self.now.depth (F.pre self.now.pattern) (F.post self.now.pattern) }
@@ -49,6 +51,7 @@ impl<F: Fn(Global, &mut Cursor<'_>, usize) -> Result<Pattern, Stopped>> PatternG
         })
     }
 
+    /// '(' [Pattern {',' Pattern}] ')', behind a name, as an alternative.
     #[tactic(auto, unfolding(crate::specs::PatternRules::built))]
     pub fn built(&self, tokens: &mut Cursor<'_>, class: Ident) -> Result<Pat, Stopped>
         requires { Nests pattern self.now.depth (F.pre self.now.pattern) (F.post self.now.pattern) }
@@ -57,6 +60,7 @@ impl<F: Fn(Global, &mut Cursor<'_>, usize) -> Result<Pattern, Stopped>> PatternG
         Ok(Pat::Simple(self.constructor(tokens, class)?))
     }
 
+    /// What stands behind a name: a type, a pattern bound to it, or the parts of a constructor.
     #[tactic(auto, unfolding(crate::specs::PatternRules::behind_name))]
     pub fn behind_name(&self, tokens: &mut Cursor<'_>, value: Ident) -> Result<Pat, Stopped>
         requires { Nests pattern self.now.depth (F.pre self.now.pattern) (F.post self.now.pattern) }
@@ -71,6 +75,7 @@ impl<F: Fn(Global, &mut Cursor<'_>, usize) -> Result<Pattern, Stopped>> PatternG
         }
     }
 
+    /// An alternative that begins with a name.
     #[tactic(auto, unfolding(crate::specs::PatternRules::by_name))]
     pub fn by_name(&self, tokens: &mut Cursor<'_>) -> Result<Pat, Stopped>
         requires { Nests pattern self.now.depth (F.pre self.now.pattern) (F.post self.now.pattern) }
@@ -89,6 +94,7 @@ impl<F: Fn(Global, &mut Cursor<'_>, usize) -> Result<Pattern, Stopped>> PatternG
         }
     }
 
+    /// '_' [':' Type]
     #[tactic(auto, unfolding(crate::specs::PatternRules::by_underscore))]
     pub fn by_underscore(&self, tokens: &mut Cursor<'_>) -> Result<Pat, Stopped>
         requires { Nests pattern self.now.depth (F.pre self.now.pattern) (F.post self.now.pattern) }
@@ -102,6 +108,7 @@ impl<F: Fn(Global, &mut Cursor<'_>, usize) -> Result<Pattern, Stopped>> PatternG
         }
     }
 
+    /// A literal or a pattern in parentheses, as an alternative.
     #[tactic(auto, unfolding(crate::specs::PatternRules::by_itself))]
     pub fn by_itself(&self, tokens: &mut Cursor<'_>) -> Result<Pat, Stopped>
         requires { Nests pattern self.now.depth (F.pre self.now.pattern) (F.post self.now.pattern) }
@@ -110,6 +117,7 @@ impl<F: Fn(Global, &mut Cursor<'_>, usize) -> Result<Pattern, Stopped>> PatternG
         Ok(Pat::Simple(self.closed(tokens)?))
     }
 
+    /// Pat ::= (id | '_') ':' Type | id '@' PatS | PatS
     #[tactic(auto, unfolding(crate::specs::PatternRules::alternative))]
     pub fn alternative(&self, tokens: &mut Cursor<'_>) -> Result<Pat, Stopped>
         requires { Nests pattern self.now.depth (F.pre self.now.pattern) (F.post self.now.pattern) }
@@ -124,6 +132,7 @@ impl<F: Fn(Global, &mut Cursor<'_>, usize) -> Result<Pattern, Stopped>> PatternG
         }
     }
 
+    /// '|' Pat
     #[tactic(auto, unfolding(crate::specs::PatternRules::next_alternative))]
     pub fn next_alternative(&self, tokens: &mut Cursor<'_>) -> Result<Pat, Stopped>
         requires { Nests pattern self.now.depth (F.pre self.now.pattern) (F.post self.now.pattern) }
@@ -133,6 +142,7 @@ impl<F: Fn(Global, &mut Cursor<'_>, usize) -> Result<Pattern, Stopped>> PatternG
         self.alternative(tokens)
     }
 
+    /// {'|' Pat}
     #[tactic(auto, unfolding(crate::specs::PatternRules::more_alternatives))]
     pub fn more_alternatives(&self, tokens: &mut Cursor<'_>) -> Result<Items<Pat>, Stopped>
         requires { Nests pattern self.now.depth (F.pre self.now.pattern) (F.post self.now.pattern) }
@@ -145,6 +155,7 @@ impl<F: Fn(Global, &mut Cursor<'_>, usize) -> Result<Pattern, Stopped>> PatternG
         Ok(found)
     }
 
+    /// Pattern ::= Pat {'|' Pat}, over the patterns inside.
     #[tactic(auto, unfolding(crate::specs::PatternRules::any_pattern))]
     pub fn any_pattern(&self, tokens: &mut Cursor<'_>) -> Result<Pattern, Stopped>
         requires { Nests pattern self.now.depth (F.pre self.now.pattern) (F.post self.now.pattern) }

@@ -1,10 +1,8 @@
 //! Expressions to a depth.
 
-ghost use Rattle.std.specs.Prelude.{◌≡◌, ◌++◌, IfOk};
-ghost use Rattle.sl_parse_expr.specs.Grammar.{IsExpr};
+ghost use Rattle.std.specs.Prelude.{◌≡◌};
 ghost use Rattle.sl_parse_expr.specs.Levels as spec;
 ghost use Rattle.sl_parse_expr.specs.PatternRules.{pattern};
-ghost use Rattle.sl_parse_expr.specs.Phrases.{Pending};
 ghost use Rattle.sl_parse_expr.specs.Reading.{Reads};
 ghost use Rattle.sl_parse_expr.specs.Rules as rules;
 ghost use Rattle.sl_parse_expr.specs.Starts as starts;
@@ -28,8 +26,8 @@ fn no_expr(tokens: &mut Cursor<'_>) -> Result<Expr, Stopped>
     }
 }
 
-// The rule of expressions, over itself one level less deep.
-fn read_level(alloc: Global, tokens: &mut Cursor<'_>, depth: usize) -> Result<Expr, Stopped>
+/// The rule of expressions, over itself one level less deep.
+pub fn read_level(alloc: Global, tokens: &mut Cursor<'_>, depth: usize) -> Result<Expr, Stopped>
     ensures { Reads (spec.expr depth tokens.old) result tokens.new }
 {
     if depth == 0 {
@@ -53,16 +51,4 @@ pub fn read_args(alloc: Global, tokens: &mut Cursor<'_>, depth: usize) -> Result
         expr: read_level,
     }
     .par_args(tokens)
-}
-
-/// An expression in which expressions and patterns nest at most `depth` deep (SLS 6). What is left begins behind it, with
-/// what is held: separators behind which an optional part would have been read. It is Unexpected where the rules go on with
-/// no such token, and TooDeep where they do one level deeper.
-#[tactic(auto, using(crate::proofs::Sound::is_derived, crate::proofs::Sound::is_held))]
-pub fn read_expr(alloc: Global, tokens: &mut Cursor<'_>, depth: usize) -> Result<Expr, Stopped>
-    ensures reads { Reads (spec.expr depth tokens.old) result tokens.new }
-    ensures derived { IfOk result (λ found. IsExpr depth found (tokens.old.0 ++ tokens.old.1) (tokens.new.0 ++ tokens.new.1)) }
-    ensures held { IfOk result (λ _. Pending tokens.new.0) }
-{
-    read_level(alloc, tokens, depth)
 }

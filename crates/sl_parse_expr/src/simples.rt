@@ -20,6 +20,7 @@ use sqlite_items::Items;
 use std::alloc::Global;
 
 impl<F: Fn(Global, &mut Cursor<'_>, usize) -> Result<Expr, Stopped>> Grammar<F> {
+    /// '.' id
     #[tactic(auto, unfolding(crate::specs::Rules::selection))]
     pub fn selection(&self, tokens: &mut Cursor<'_>) -> Result<Option<Suffix>, Stopped>
         requires { Nests expr self.now.depth (F.pre self.now.expr) (F.post self.now.expr) }
@@ -29,6 +30,7 @@ impl<F: Fn(Global, &mut Cursor<'_>, usize) -> Result<Expr, Stopped>> Grammar<F> 
         Ok(Some(Suffix::Select(name(self.alloc, tokens)?)))
     }
 
+    /// ParArgs, as a suffix.
     #[tactic(auto, unfolding(crate::specs::Rules::call))]
     pub fn call(&self, tokens: &mut Cursor<'_>) -> Result<Option<Suffix>, Stopped>
         requires { Nests expr self.now.depth (F.pre self.now.expr) (F.post self.now.expr) }
@@ -37,6 +39,7 @@ impl<F: Fn(Global, &mut Cursor<'_>, usize) -> Result<Expr, Stopped>> Grammar<F> 
         Ok(Some(Suffix::Apply(Args::Parens(self.par_args(tokens)?))))
     }
 
+    /// '{' Block '}', as a suffix.
     #[tactic(auto, unfolding(crate::specs::Rules::block_call))]
     pub fn block_call(&self, tokens: &mut Cursor<'_>) -> Result<Option<Suffix>, Stopped>
         requires { Nests expr self.now.depth (F.pre self.now.expr) (F.post self.now.expr) }
@@ -46,6 +49,7 @@ impl<F: Fn(Global, &mut Cursor<'_>, usize) -> Result<Expr, Stopped>> Grammar<F> 
         Ok(Some(Suffix::Apply(Args::Block { block, span })))
     }
 
+    /// A block behind a line end that is held, if a brace stands there.
     #[tactic(auto, unfolding(crate::specs::Rules::behind_line, crate::specs::Reading::absorb))]
     pub fn behind_line(&self, tokens: &mut Cursor<'_>) -> Result<Option<Suffix>, Stopped>
         requires { Nests expr self.now.depth (F.pre self.now.expr) (F.post self.now.expr) }
@@ -59,6 +63,7 @@ impl<F: Fn(Global, &mut Cursor<'_>, usize) -> Result<Expr, Stopped>> Grammar<F> 
         }
     }
 
+    /// A line end, behind which only a block is a suffix.
     #[tactic(auto, unfolding(crate::specs::Rules::line_call))]
     pub fn line_call(&self, tokens: &mut Cursor<'_>) -> Result<Option<Suffix>, Stopped>
         requires { Nests expr self.now.depth (F.pre self.now.expr) (F.post self.now.expr) }
@@ -72,6 +77,7 @@ impl<F: Fn(Global, &mut Cursor<'_>, usize) -> Result<Expr, Stopped>> Grammar<F> 
         }
     }
 
+    /// A suffix by its first token, or none.
     #[tactic(auto, unfolding(crate::specs::Rules::suffix))]
     pub fn suffix(&self, tokens: &mut Cursor<'_>) -> Result<Option<Suffix>, Stopped>
         requires { Nests expr self.now.depth (F.pre self.now.expr) (F.post self.now.expr) }
@@ -88,6 +94,7 @@ impl<F: Fn(Global, &mut Cursor<'_>, usize) -> Result<Expr, Stopped>> Grammar<F> 
         }
     }
 
+    /// {'.' id | Args}
     #[tactic(auto, unfolding(crate::specs::Rules::suffixes))]
     pub fn suffixes(
         &self,
@@ -111,6 +118,7 @@ impl<F: Fn(Global, &mut Cursor<'_>, usize) -> Result<Expr, Stopped>> Grammar<F> 
         Ok((chain, found))
     }
 
+    /// Simple ::= Head {'.' id | Args}
     #[tactic(auto, unfolding(crate::specs::Rules::simple))]
     pub fn simple(&self, tokens: &mut Cursor<'_>) -> Result<Simple, Stopped>
         requires { Nests expr self.now.depth (F.pre self.now.expr) (F.post self.now.expr) }

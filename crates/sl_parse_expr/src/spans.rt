@@ -22,6 +22,7 @@ pub fn join(from: Span, to: Span) -> Span
     }
 }
 
+/// Where an expression stands.
 #[tactic(auto, unfolding(crate::specs::Spans::expr_span))]
 pub fn expr_span(expr: &Expr) -> Span
     ensures { result ≡ spec.expr_span expr.now }
@@ -37,6 +38,7 @@ pub fn expr_span(expr: &Expr) -> Span
     }
 }
 
+/// Where arguments in parentheses stand.
 #[tactic(auto, unfolding(crate::specs::Spans::par_args_span))]
 pub fn par_args_span(args: &ParArgs) -> Span
     ensures { result ≡ spec.par_args_span args.now }
@@ -44,6 +46,7 @@ pub fn par_args_span(args: &ParArgs) -> Span
     args.span
 }
 
+/// Where a simple expression stands.
 #[tactic(auto, unfolding(crate::specs::Spans::simple_span))]
 pub fn simple_span(simple: &Simple) -> Span
     ensures { result ≡ spec.simple_span simple.now }
@@ -51,6 +54,7 @@ pub fn simple_span(simple: &Simple) -> Span
     simple.span
 }
 
+/// Where a prefix expression stands.
 #[tactic(auto, unfolding(crate::specs::Spans::prefix_span))]
 pub fn prefix_span(prefix: &Prefix) -> Span
     ensures { result ≡ spec.prefix_span prefix.now }
@@ -58,6 +62,7 @@ pub fn prefix_span(prefix: &Prefix) -> Span
     prefix.span
 }
 
+/// Where an infix expression stands.
 #[tactic(auto, unfolding(crate::specs::Spans::infix_span))]
 pub fn infix_span(tree: &Infix) -> Span
     ensures { result ≡ spec.infix_span tree.now }
@@ -65,6 +70,7 @@ pub fn infix_span(tree: &Infix) -> Span
     tree.span
 }
 
+/// Where a literal stands.
 #[tactic(auto, unfolding(crate::specs::Spans::literal_span))]
 pub fn literal_span(literal: &Literal) -> Span
     ensures { result ≡ spec.literal_span literal.now }
@@ -78,6 +84,7 @@ pub fn literal_span(literal: &Literal) -> Span
     }
 }
 
+/// Where a head stands.
 #[tactic(auto, unfolding(crate::specs::Spans::head_span))]
 pub fn head_span(head: &Head) -> Span
     ensures { result ≡ spec.head_span head.now }
@@ -93,6 +100,7 @@ pub fn head_span(head: &Head) -> Span
     }
 }
 
+/// Where a suffix stands.
 #[tactic(auto, unfolding(crate::specs::Spans::suffix_span))]
 pub fn suffix_span(suffix: &Suffix) -> Span
     ensures { result ≡ spec.suffix_span suffix.now }
@@ -104,6 +112,7 @@ pub fn suffix_span(suffix: &Suffix) -> Span
     }
 }
 
+/// Where a statement stands.
 #[tactic(auto, unfolding(crate::specs::Spans::stat_span))]
 pub fn stat_span(stat: &Stat) -> Span
     ensures { result ≡ spec.stat_span stat.now }
@@ -114,6 +123,7 @@ pub fn stat_span(stat: &Stat) -> Span
     }
 }
 
+/// Where an operation's operand stands.
 #[tactic(auto, unfolding(crate::specs::Spans::operation_span))]
 pub fn operation_span(operation: &Operation) -> Span
     ensures { result ≡ spec.operation_span operation.now }
@@ -173,6 +183,7 @@ pub fn end_of_cases(before: Span, handler: Option<(Cases, Span)>) -> (Option<Cas
     }
 }
 
+/// Where a type stands.
 #[tactic(auto, unfolding(crate::specs::PatternTrees::type_span))]
 pub fn type_span(ty: &TypeTree) -> Span
     ensures { result ≡ patterns.type_span ty.now }
@@ -183,6 +194,7 @@ pub fn type_span(ty: &TypeTree) -> Span
     }
 }
 
+/// Where a name or `_` stands.
 #[tactic(auto, unfolding(crate::specs::PatternTrees::wildcard_span))]
 pub fn wildcard_span(name: &Wildcard) -> Span
     ensures { result ≡ patterns.wildcard_span name.now }
@@ -193,6 +205,7 @@ pub fn wildcard_span(name: &Wildcard) -> Span
     }
 }
 
+/// Where a simple pattern stands.
 #[tactic(auto, unfolding(crate::specs::PatternTrees::simple_pattern_span))]
 pub fn simple_pattern_span(pattern: &PatS) -> Span
     ensures { result ≡ patterns.simple_pattern_span pattern.now }
@@ -205,6 +218,7 @@ pub fn simple_pattern_span(pattern: &PatS) -> Span
     }
 }
 
+/// Where an alternative stands.
 #[tactic(auto, unfolding(crate::specs::PatternTrees::pat_span))]
 pub fn pat_span(pattern: &Pat) -> Span
     ensures { result ≡ patterns.pat_span pattern.now }

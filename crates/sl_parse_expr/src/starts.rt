@@ -14,24 +14,28 @@ use crate::ahead::Ahead;
 use crate::chain::Chain;
 use crate::cursor::{Cursor, Waiting};
 
+/// Whether it is an operator that may stand before its operand.
 pub fn begins_sign(next: Ahead) -> bool
     ensures { result ≡ starts.begins_sign next }
 {
     next.is(Ahead::Minus) || next.is(Ahead::Sign)
 }
 
+/// Whether it is `val` or `var`.
 pub fn begins_binding(next: Ahead) -> bool
     ensures { result ≡ starts.begins_binding next }
 {
     next.is(Ahead::Val) || next.is(Ahead::Var)
 }
 
+/// Whether it is `;` or a line end.
 pub fn separates(next: Ahead) -> bool
     ensures { result ≡ values.separates next }
 {
     next.is(Ahead::Semicolon) || next.is(Ahead::Newline)
 }
 
+/// Whether it is an operator between two operands.
 pub fn is_operator(next: Ahead) -> bool
     ensures { result ≡ starts.is_operator next }
 {
@@ -42,6 +46,7 @@ pub fn is_operator(next: Ahead) -> bool
         || next.is(Ahead::Op)
 }
 
+/// Whether a simple expression begins with it.
 pub fn begins_head(next: Ahead) -> bool
     ensures { result ≡ starts.begins_head next }
 {
@@ -54,6 +59,7 @@ pub fn begins_head(next: Ahead) -> bool
         || next.is(Ahead::OpenBrace)
 }
 
+/// Whether an expression begins with it.
 pub fn begins_expr(next: Ahead) -> bool
     ensures { result ≡ starts.begins_expr next }
 {
@@ -65,6 +71,7 @@ pub fn begins_expr(next: Ahead) -> bool
         || begins_head(next)
 }
 
+/// Whether a pattern begins with it.
 pub fn begins_pattern(next: Ahead) -> bool
     ensures { result ≡ patterns.begins_pattern next }
 {
@@ -75,6 +82,7 @@ pub fn begins_pattern(next: Ahead) -> bool
         || next.is(Ahead::Literal)
 }
 
+/// Whether a statement begins with it.
 pub fn begins_stat(next: Ahead) -> bool
     ensures { result ≡ starts.begins_stat next }
 {

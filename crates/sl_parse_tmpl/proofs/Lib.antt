@@ -1,3 +1,9 @@
 pub mod Ends
 pub mod Good
 pub mod Within
+pub mod Lists
+pub mod SeqSound
+pub mod SeqComplete
+pub mod Sound
+pub mod Complete
+pub mod Refused

@@ -8,7 +8,7 @@ use Rattle.sl_ast.specs.declared.unit.Unit as file
 use Rattle.sl_parse_expr.specs.Reading.{Stop, Outcome, and_then, ◌>>◌, pure, head}
 use Rattle.sl_parse_expr.proofs.Theory.{bind_err, err_is, ok_of}
 use Rattle.sl_parse_tmpl.specs.declared.fault.ParseFault.{ParseFault}
-use Rattle.sl_parse_tmpl.specs.Faults.{nesting, behind, place, fault_at, kind_of, tree_of, fault_of}
+use Rattle.sl_parse_tmpl.specs.Faults.{nesting, behind, next_span, fault_at, kind_of, tree_of, fault_of}
 use Rattle.sl_parse_tmpl.specs.Rules.{over, over_by, top_defs, unit}
 use Rattle.sl_parse_tmpl.specs.Trees.{unit_tree}
 use Rattle.sl_parse_tmpl.proofs.Good.{good_top_defs}
@@ -62,14 +62,14 @@ behind_within : (n : ℕ) (o : Option Token) → ((t : Token) → o ≡ Some t �
 behind_within n None h = omega arith
 behind_within n (Some t) h = (h t refl).1
 
-place_within : (n : ℕ) (tokens : List Token) (o : Option Token) → AllByRecursion (Ends n) tokens → ((t : Token) → o ≡ Some t → Ends n t) → (place tokens o).from ≤ n
-place_within n tokens (Some t) a h = (h t refl).0
-place_within n tokens None a h = behind_within n (slice_get tokens (length tokens - 1)) (λ t e. at_index n tokens (length tokens - 1) t a e)
+next_span_within : (n : ℕ) (tokens : List Token) (o : Option Token) → AllByRecursion (Ends n) tokens → ((t : Token) → o ≡ Some t → Ends n t) → (next_span tokens o).from ≤ n
+next_span_within n tokens (Some t) a h = (h t refl).0
+next_span_within n tokens None a h = behind_within n (slice_get tokens (length tokens - 1)) (λ t e. at_index n tokens (length tokens - 1) t a e)
 
-left_within : (n : ℕ) (tokens left : List Token) → IsLeft tokens left → AllByRecursion (Ends n) tokens → (place tokens (head left)).from ≤ n
+left_within : (n : ℕ) (tokens left : List Token) → IsLeft tokens left → AllByRecursion (Ends n) tokens → (next_span tokens (head left)).from ≤ n
 left_within n tokens left l a =
     let b : AllByRecursion (Ends n) (l.0 ++ left) = subst (λ (z : List Token). AllByRecursion (Ends n) z) l.1 a in
-    place_within n tokens (head left) a (λ t e. at_head n l.0 left t b e)
+    next_span_within n tokens (head left) a (λ t e. at_head n l.0 left t b e)
 
 by_outcome : (n : ℕ) (tokens : List Token) (fault : ParseFault) (o : Outcome file.Unit) → ((s : Stop) → o ≡ Err s → IsLeft tokens s.at) → Some fault ≡ fault_of tokens o → AllByRecursion (Ends n) tokens → fault.span.from ≤ n
 by_outcome n tokens fault (Ok q) l e a = absurd cc

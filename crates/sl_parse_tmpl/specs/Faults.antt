@@ -1,4 +1,4 @@
--- What reading a file gives: its tree, or its fault with the place.
+-- What reading a file gives: its tree, or its fault with the token and the span where reading stopped.
 use Rattle.std.specs.Prelude.{◌-◌, nat_lt, ℕ, Bool, true, false, List, length, Option, Some, None, Ok, Err, if◌then◌else◌, slice_get}
 use Rattle.sl_text.specs.declared.span.Span.{Span}
 use Rattle.sl_ast.specs.declared.token.Token.{Token}
@@ -12,6 +12,7 @@ use Rattle.sl_parse_tmpl.specs.declared.fault.ParseKind.TheVariants as kinds
 abbrev pub nesting : ℕ
 nesting = 200
 
+-- the kind of a fault where reading stopped, by whether it stopped for depth
 abbrev pub kind_of : Bool → ParseKind
 kind_of true = kinds.TooDeep
 kind_of false = kinds.Unexpected
@@ -20,21 +21,23 @@ kind_of false = kinds.Unexpected
 abbrev pub number : ℕ → ℕ
 number n = if nat_lt n 4294967295 then n else 4294967295
 
+-- the span of no characters at an offset
 abbrev pub empty_at : ℕ → Span
 empty_at n = record { from = n; to = n }
 
+-- the empty span behind a token, or at the begin where there is none
 abbrev pub behind : Option Token → Span
 behind None = empty_at 0
 behind (Some t) = empty_at t.span.to
 
--- where this token stands, or the end of all tokens
-abbrev pub place : List Token → Option Token → Span
-place tokens (Some t) = t.span
-place tokens None = behind (slice_get tokens (length tokens - 1))
+-- the span of the next token, or the empty one behind all tokens
+abbrev pub next_span : List Token → Option Token → Span
+next_span tokens (Some t) = t.span
+next_span tokens None = behind (slice_get tokens (length tokens - 1))
 
 -- a fault where these of the tokens are left
 abbrev pub fault_at : List Token → List Token → ParseKind → ParseFault
-fault_at tokens left kind = record { kind = kind; at = number (length tokens - length left); span = place tokens (head left) }
+fault_at tokens left kind = record { kind = kind; at = number (length tokens - length left); span = next_span tokens (head left) }
 
 -- the tree that reading gave
 abbrev pub tree_of : Outcome file.Unit → Option file.Unit

@@ -6,3 +6,5 @@ pub mod Grammar
 -- The rules as readers, which the contracts cite.
 pub mod Rules
 pub mod Faults
+-- What a fault says of the tokens, in the words of the grammar.
+pub mod Refusals

@@ -11,6 +11,7 @@ use Rattle.sl_parse_expr.specs.declared.ahead.Ahead.TheVariants as see
 use Rattle.sl_parse_expr.specs.Ahead.{sort, same}
 use Rattle.sl_parse_expr.specs.Starts.{begins_binding, begins_expr}
 
+-- the modifier of a member that a word is
 abbrev pub modifier_by : Ahead → Span → Option MemberModifier
 modifier_by see.Override s = Some (modifier.Override s)
 modifier_by see.Private s = Some (modifier.Private s)
@@ -20,6 +21,7 @@ modifier_by o s = None
 unfoldable pub modifier_of : Token → Option MemberModifier
 modifier_of t = modifier_by (sort t) t.span
 
+-- the modifier of a class that a word is
 abbrev pub class_modifier_by : Ahead → Span → Option ClassModifier
 class_modifier_by see.Sealed s = Some (class_modifier.Sealed s)
 class_modifier_by see.Abstract s = Some (class_modifier.Abstract s)
@@ -29,9 +31,11 @@ class_modifier_by o s = None
 unfoldable pub class_modifier_of : Token → Option ClassModifier
 class_modifier_of t = class_modifier_by (sort t) t.span
 
+-- `override` or `private`
 abbrev pub is_modifier : Ahead → Bool
 is_modifier o = same see.Override o || same see.Private o
 
+-- `sealed` or `abstract`
 abbrev pub is_class_modifier : Ahead → Bool
 is_class_modifier o = same see.Sealed o || same see.Abstract o
 
@@ -39,6 +43,7 @@ is_class_modifier o = same see.Sealed o || same see.Abstract o
 abbrev pub begins_definition : Ahead → Bool
 begins_definition o = is_modifier o || begins_binding o || same see.Lazy o || same see.Def o
 
+-- a member of a template: a definition or an expression
 abbrev pub begins_member : Ahead → Bool
 begins_member o = begins_definition o || begins_expr o
 

@@ -14,6 +14,7 @@ use sl_text::Span;
 use sqlite_items::Items;
 use std::alloc::Global;
 
+// 'private' ('val' | 'var'), and where it begins.
 #[tactic(auto, unfolding(crate::specs::Rules::private_member))]
 fn private_member(tokens: &mut Cursor<'_>) -> Result<Option<(ParamMember, Span)>, Stopped>
     ensures { Reads (spec.private_member tokens.old) result tokens.new }
@@ -30,6 +31,7 @@ fn private_member(tokens: &mut Cursor<'_>) -> Result<Option<(ParamMember, Span)>
     )))
 }
 
+// 'val' | 'var', and where it stands.
 #[tactic(auto, unfolding(crate::specs::Rules::open_member))]
 fn open_member(tokens: &mut Cursor<'_>) -> Result<Option<(ParamMember, Span)>, Stopped>
     ensures { Reads (spec.open_member tokens.old) result tokens.new }
@@ -76,6 +78,7 @@ fn plain_param(
     })
 }
 
+// 'private' ('val' | 'var') id ':' Type
 #[tactic(auto, unfolding(crate::specs::Rules::private_param))]
 fn private_param(alloc: Global, tokens: &mut Cursor<'_>) -> Result<ClassParam, Stopped>
     ensures { Reads (spec.private_param tokens.old) result tokens.new }
@@ -84,6 +87,7 @@ fn private_param(alloc: Global, tokens: &mut Cursor<'_>) -> Result<ClassParam, S
     plain_param(alloc, tokens, member)
 }
 
+// ('val' | 'var') id ':' Type
 #[tactic(auto, unfolding(crate::specs::Rules::open_param))]
 fn open_param(alloc: Global, tokens: &mut Cursor<'_>) -> Result<ClassParam, Stopped>
     ensures { Reads (spec.open_param tokens.old) result tokens.new }
@@ -92,6 +96,7 @@ fn open_param(alloc: Global, tokens: &mut Cursor<'_>) -> Result<ClassParam, Stop
     plain_param(alloc, tokens, member)
 }
 
+// ClassParam ::= [['private'] ('val' | 'var')] id ':' Type
 #[tactic(auto, unfolding(crate::specs::Rules::class_param))]
 fn class_param(alloc: Global, tokens: &mut Cursor<'_>) -> Result<ClassParam, Stopped>
     ensures { Reads (spec.class_param tokens.old) result tokens.new }
@@ -105,6 +110,7 @@ fn class_param(alloc: Global, tokens: &mut Cursor<'_>) -> Result<ClassParam, Sto
     }
 }
 
+// ',' ClassParam
 #[tactic(auto, unfolding(crate::specs::Rules::next_class_param))]
 fn next_class_param(alloc: Global, tokens: &mut Cursor<'_>) -> Result<ClassParam, Stopped>
     ensures { Reads (spec.next_class_param tokens.old) result tokens.new }
@@ -113,6 +119,7 @@ fn next_class_param(alloc: Global, tokens: &mut Cursor<'_>) -> Result<ClassParam
     class_param(alloc, tokens)
 }
 
+// {',' ClassParam}, behind these parameters.
 #[tactic(auto, unfolding(crate::specs::Rules::more_class_params))]
 fn more_class_params(
     alloc: Global,
@@ -128,6 +135,7 @@ fn more_class_params(
     Ok(found)
 }
 
+// ')' of an empty list, and where it stands.
 #[tactic(auto, unfolding(crate::specs::Rules::no_class_params))]
 fn no_class_params(
     alloc: Global,
@@ -139,6 +147,7 @@ fn no_class_params(
     Ok((Items::new(alloc), end))
 }
 
+// ClassParam {',' ClassParam} ')', and where the parenthesis stands.
 #[tactic(auto, unfolding(crate::specs::Rules::some_class_params))]
 fn some_class_params(
     alloc: Global,
@@ -154,6 +163,7 @@ fn some_class_params(
     Ok((params, end))
 }
 
+// Params ::= '(' [ClassParam {',' ClassParam}] ')'
 #[tactic(auto, unfolding(crate::specs::Rules::class_params))]
 fn class_params(alloc: Global, tokens: &mut Cursor<'_>) -> Result<Option<Params>, Stopped>
     ensures { Reads (spec.class_params tokens.old) result tokens.new }

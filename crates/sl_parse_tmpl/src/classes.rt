@@ -15,6 +15,7 @@ use sl_text::Span;
 use sqlite_items::Items;
 use std::alloc::Global;
 
+// 'case', and where it stands.
 #[tactic(auto, unfolding(crate::specs::Rules::some_case))]
 fn some_case(tokens: &mut Cursor<'_>) -> Result<Option<Span>, Stopped>
     ensures { Reads (spec.some_case tokens.old) result tokens.new }
@@ -22,6 +23,7 @@ fn some_case(tokens: &mut Cursor<'_>) -> Result<Option<Span>, Stopped>
     Ok(Some(expect(tokens, Ahead::Case)?))
 }
 
+// ['case']
 #[tactic(auto, unfolding(crate::specs::Rules::optional_case))]
 fn optional_case(tokens: &mut Cursor<'_>) -> Result<Option<Span>, Stopped>
     ensures { Reads (spec.optional_case tokens.old) result tokens.new }
@@ -33,6 +35,7 @@ fn optional_case(tokens: &mut Cursor<'_>) -> Result<Option<Span>, Stopped>
     }
 }
 
+// ['case'] 'class' id [Params] Template
 #[tactic(auto, unfolding(crate::specs::Rules::class_def))]
 fn class_def(
     alloc: Global,
@@ -60,6 +63,7 @@ fn class_def(
     })
 }
 
+// 'trait' id Template
 #[tactic(auto, unfolding(crate::specs::Rules::trait_def))]
 fn trait_def(
     alloc: Global,
@@ -82,6 +86,7 @@ fn trait_def(
     })
 }
 
+// 'object' id Template
 #[tactic(auto, unfolding(crate::specs::Rules::object_def))]
 fn object_def(alloc: Global, tokens: &mut Cursor<'_>, depth: usize) -> Result<TopDef, Stopped>
     ensures { Reads (spec.object_def depth tokens.old) result tokens.new }
@@ -97,6 +102,7 @@ fn object_def(alloc: Global, tokens: &mut Cursor<'_>, depth: usize) -> Result<To
     })
 }
 
+// What stands behind modifiers: a trait or an object, where these may be, else a class.
 #[tactic(auto, unfolding(crate::specs::Rules::behind_modifiers))]
 fn behind_modifiers(
     alloc: Global,
@@ -115,6 +121,7 @@ fn behind_modifiers(
     }
 }
 
+// TopDef: a class, trait or object with its modifiers.
 #[tactic(auto, unfolding(crate::specs::Rules::top_def))]
 fn top_def(alloc: Global, tokens: &mut Cursor<'_>, depth: usize) -> Result<TopDef, Stopped>
     ensures { Reads (spec.top_def depth tokens.old) result tokens.new }
@@ -123,6 +130,7 @@ fn top_def(alloc: Global, tokens: &mut Cursor<'_>, depth: usize) -> Result<TopDe
     behind_modifiers(alloc, tokens, depth, modifiers)
 }
 
+// A separator between definitions.
 #[tactic(auto, unfolding(crate::specs::Rules::top_apart))]
 fn top_apart(tokens: &mut Cursor<'_>) -> Result<Option<(TopDef, bool)>, Stopped>
     ensures { Reads (spec.top_apart tokens.old) result tokens.new }
@@ -131,6 +139,7 @@ fn top_apart(tokens: &mut Cursor<'_>) -> Result<Option<(TopDef, bool)>, Stopped>
     Ok(None)
 }
 
+// A class, trait or object, and whether nothing was held behind it.
 #[tactic(auto, unfolding(crate::specs::Rules::top_item, sl_parse_expr::specs::Reading::absorb))]
 fn top_item(
     alloc: Global,
@@ -144,6 +153,7 @@ fn top_item(
     Ok(Some((found, clean)))
 }
 
+// A definition of a file, or a separator between these.
 #[tactic(auto, unfolding(crate::specs::Rules::unit_item))]
 fn unit_item(
     alloc: Global,
@@ -159,6 +169,7 @@ fn unit_item(
     }
 }
 
+// Seq(TopDef)
 #[tactic(auto, unfolding(crate::specs::Rules::top_defs))]
 fn top_defs(
     alloc: Global,

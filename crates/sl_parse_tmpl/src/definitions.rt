@@ -11,6 +11,7 @@ use sl_ast::Def;
 use sl_parse_expr::{Ahead, Cursor, Stopped, expect, expr_span, join, name, type_span};
 use std::alloc::Global;
 
+// 'val' id [':' Type] ['=' Expr]
 #[tactic(auto, unfolding(crate::specs::Rules::val_def))]
 fn val_def(alloc: Global, tokens: &mut Cursor<'_>, depth: usize) -> Result<Def, Stopped>
     ensures { Reads (spec.val_def depth tokens.old) result tokens.new }
@@ -28,6 +29,7 @@ fn val_def(alloc: Global, tokens: &mut Cursor<'_>, depth: usize) -> Result<Def, 
     })
 }
 
+// 'var' id [':' Type] '=' Expr
 #[tactic(auto, unfolding(crate::specs::Rules::var_def))]
 fn var_def(alloc: Global, tokens: &mut Cursor<'_>, depth: usize) -> Result<Def, Stopped>
     ensures { Reads (spec.var_def depth tokens.old) result tokens.new }
@@ -45,6 +47,7 @@ fn var_def(alloc: Global, tokens: &mut Cursor<'_>, depth: usize) -> Result<Def, 
     })
 }
 
+// 'lazy' 'val' id [':' Type] '=' Expr
 #[tactic(auto, unfolding(crate::specs::Rules::lazy_def))]
 fn lazy_def(alloc: Global, tokens: &mut Cursor<'_>, depth: usize) -> Result<Def, Stopped>
     ensures { Reads (spec.lazy_def depth tokens.old) result tokens.new }
@@ -63,6 +66,7 @@ fn lazy_def(alloc: Global, tokens: &mut Cursor<'_>, depth: usize) -> Result<Def,
     })
 }
 
+// 'def' id ['(' [id ':' Type {',' id ':' Type}] ')'] ':' Type ['=' Expr]
 #[tactic(auto, unfolding(crate::specs::Rules::def_def))]
 fn def_def(alloc: Global, tokens: &mut Cursor<'_>, depth: usize) -> Result<Def, Stopped>
     ensures { Reads (spec.def_def depth tokens.old) result tokens.new }

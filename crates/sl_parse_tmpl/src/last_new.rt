@@ -6,6 +6,7 @@ ghost use Rattle.sl_parse_tmpl.specs.LastNew as spec;
 use sl_ast::{Def, Expr, Member};
 use sl_parse_expr::ends_in_new;
 
+// Whether an optional right side ends in a bare `new`.
 fn value_ends_in_new(value: &Option<Expr>) -> bool
     ensures { result ≡ spec.value_ends_in_new value.now }
 {
@@ -15,6 +16,7 @@ fn value_ends_in_new(value: &Option<Expr>) -> bool
     }
 }
 
+// Whether a definition ends in a bare `new`.
 fn def_ends_in_new(def: &Def) -> bool
     ensures { result ≡ spec.def_ends_in_new def.now }
 {

@@ -14,6 +14,7 @@ use sl_parse_expr::{Cursor, Stopped, behind_item, join, read_expr, separates, se
 use sqlite_items::Items;
 use std::alloc::Global;
 
+// {'override' | 'private'} Def
 #[tactic(auto, unfolding(crate::specs::Rules::member_def))]
 fn member_def(alloc: Global, tokens: &mut Cursor<'_>, depth: usize) -> Result<Member, Stopped>
     ensures { Reads (spec.member_def depth tokens.old) result tokens.new }
@@ -29,6 +30,7 @@ fn member_def(alloc: Global, tokens: &mut Cursor<'_>, depth: usize) -> Result<Me
     })
 }
 
+// Expr, as a member.
 #[tactic(auto, unfolding(crate::specs::Rules::member_expr))]
 fn member_expr(alloc: Global, tokens: &mut Cursor<'_>, depth: usize) -> Result<Member, Stopped>
     ensures { Reads (spec.member_expr depth tokens.old) result tokens.new }
@@ -36,6 +38,7 @@ fn member_expr(alloc: Global, tokens: &mut Cursor<'_>, depth: usize) -> Result<M
     Ok(Member::Expr(read_expr(alloc, tokens, depth)?))
 }
 
+// Member ::= {'override' | 'private'} Def | Expr
 #[tactic(auto, unfolding(crate::specs::Rules::member))]
 fn member(alloc: Global, tokens: &mut Cursor<'_>, depth: usize) -> Result<Member, Stopped>
     ensures { Reads (spec.member depth tokens.old) result tokens.new }
@@ -47,6 +50,7 @@ fn member(alloc: Global, tokens: &mut Cursor<'_>, depth: usize) -> Result<Member
     }
 }
 
+// A separator between members.
 #[tactic(auto, unfolding(crate::specs::Rules::member_apart))]
 fn member_apart(tokens: &mut Cursor<'_>) -> Result<Option<(Member, bool)>, Stopped>
     ensures { Reads (spec.member_apart tokens.old) result tokens.new }
@@ -55,6 +59,7 @@ fn member_apart(tokens: &mut Cursor<'_>) -> Result<Option<(Member, bool)>, Stopp
     Ok(None)
 }
 
+// A member, and whether nothing was held behind it.
 #[tactic(auto, unfolding(crate::specs::Rules::member_item))]
 fn member_item(
     alloc: Global,
@@ -68,6 +73,7 @@ fn member_item(
     Ok(Some((found, clean)))
 }
 
+// A member, or a separator between members.
 #[tactic(auto, unfolding(crate::specs::Rules::body_item))]
 fn body_item(
     alloc: Global,

@@ -10,6 +10,7 @@ use sl_parse_expr::{Ahead, Cursor, Stopped};
 use sqlite_items::Items;
 use std::alloc::Global;
 
+// 'override' | 'private'
 #[tactic(auto, unfolding(crate::specs::Rules::modifier, sl_parse_expr::specs::Reading::one, crate::specs::Words::modifier_of))]
 fn modifier(tokens: &mut Cursor<'_>) -> Result<MemberModifier, Stopped>
     ensures { Reads (spec.modifier tokens.old) result tokens.new }
@@ -45,6 +46,7 @@ pub fn modifiers(alloc: Global, tokens: &mut Cursor<'_>) -> Result<Items<MemberM
     Ok(found)
 }
 
+// 'sealed' | 'abstract'
 #[tactic(auto, unfolding(crate::specs::Rules::class_modifier, sl_parse_expr::specs::Reading::one, crate::specs::Words::class_modifier_of))]
 fn class_modifier(tokens: &mut Cursor<'_>) -> Result<ClassModifier, Stopped>
     ensures { Reads (spec.class_modifier tokens.old) result tokens.new }

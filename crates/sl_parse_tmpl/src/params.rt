@@ -10,6 +10,7 @@ use sl_parse_expr::{Ahead, Cursor, Stopped, expect, join, name, type_span};
 use sqlite_items::Items;
 use std::alloc::Global;
 
+// id ':' Type
 #[tactic(auto, unfolding(crate::specs::Rules::param))]
 fn param(alloc: Global, tokens: &mut Cursor<'_>) -> Result<Param, Stopped>
     ensures { Reads (spec.param tokens.old) result tokens.new }
@@ -20,6 +21,7 @@ fn param(alloc: Global, tokens: &mut Cursor<'_>) -> Result<Param, Stopped>
     Ok(Param { name, ty, span })
 }
 
+// ',' id ':' Type
 #[tactic(auto, unfolding(crate::specs::Rules::next_param))]
 fn next_param(alloc: Global, tokens: &mut Cursor<'_>) -> Result<Param, Stopped>
     ensures { Reads (spec.next_param tokens.old) result tokens.new }
@@ -28,6 +30,7 @@ fn next_param(alloc: Global, tokens: &mut Cursor<'_>) -> Result<Param, Stopped>
     param(alloc, tokens)
 }
 
+// {',' id ':' Type}, behind these parameters.
 #[tactic(auto, unfolding(crate::specs::Rules::more_params))]
 fn more_params(
     alloc: Global,
@@ -43,6 +46,7 @@ fn more_params(
     Ok(found)
 }
 
+// ')' of an empty list.
 #[tactic(auto, unfolding(crate::specs::Rules::no_params))]
 fn no_params(alloc: Global, tokens: &mut Cursor<'_>) -> Result<Option<Items<Param>>, Stopped>
     ensures { Reads (spec.no_params tokens.old) result tokens.new }
@@ -51,6 +55,7 @@ fn no_params(alloc: Global, tokens: &mut Cursor<'_>) -> Result<Option<Items<Para
     Ok(Some(Items::new(alloc)))
 }
 
+// id ':' Type {',' id ':' Type} ')'
 #[tactic(auto, unfolding(crate::specs::Rules::some_params))]
 fn some_params(alloc: Global, tokens: &mut Cursor<'_>) -> Result<Option<Items<Param>>, Stopped>
     ensures { Reads (spec.some_params tokens.old) result tokens.new }
@@ -63,6 +68,7 @@ fn some_params(alloc: Global, tokens: &mut Cursor<'_>) -> Result<Option<Items<Pa
     Ok(Some(params))
 }
 
+// '(' [id ':' Type {',' id ':' Type}] ')'
 #[tactic(auto, unfolding(crate::specs::Rules::params))]
 fn params(alloc: Global, tokens: &mut Cursor<'_>) -> Result<Option<Items<Param>>, Stopped>
     ensures { Reads (spec.params tokens.old) result tokens.new }

@@ -42,6 +42,7 @@ pub fn end_of_params(before: Span, params: &Option<Params>) -> Span
     }
 }
 
+/// Where a definition stands.
 pub fn def_span(def: &Def) -> Span
     ensures { result ≡ spec.def_span def.now }
 {
@@ -53,6 +54,7 @@ pub fn def_span(def: &Def) -> Span
     }
 }
 
+// Where a modifier of a member stands.
 fn modifier_span(modifier: MemberModifier) -> Span
     ensures { result ≡ spec.modifier_span modifier }
 {
@@ -71,6 +73,7 @@ pub fn first_modifier(modifiers: &[MemberModifier], behind: Span) -> Span
     }
 }
 
+// Where a modifier of a class stands.
 fn class_modifier_span(modifier: ClassModifier) -> Span
     ensures { result ≡ spec.class_modifier_span modifier }
 {

@@ -12,6 +12,7 @@ use sl_text::Span;
 use sqlite_items::Items;
 use std::alloc::Global;
 
+// '{' Seq(Member) '}', and where the brace stands that closes it.
 #[tactic(auto, unfolding(crate::specs::Rules::braces))]
 fn braces(
     alloc: Global,
@@ -26,6 +27,7 @@ fn braces(
     Ok((members, end))
 }
 
+// '{' Seq(Member) '}', with what was held before it gone.
 #[tactic(auto, unfolding(crate::specs::Rules::some_body, sl_parse_expr::specs::Reading::absorb))]
 fn some_body(
     alloc: Global,
@@ -38,6 +40,7 @@ fn some_body(
     Ok(Some(braces(alloc, tokens, depth)?))
 }
 
+// A body behind a line end that is held, if a brace stands there.
 #[tactic(auto, unfolding(crate::specs::Rules::behind_line))]
 fn behind_line(
     alloc: Global,
@@ -53,6 +56,7 @@ fn behind_line(
     }
 }
 
+// [[nl] '{' Seq(Member) '}']
 #[tactic(auto, unfolding(crate::specs::Rules::body))]
 fn body(
     alloc: Global,
@@ -71,6 +75,7 @@ fn body(
     }
 }
 
+// ParArgs, as arguments that are there.
 #[tactic(auto, unfolding(crate::specs::Rules::some_args))]
 fn some_args(
     alloc: Global,
@@ -82,6 +87,7 @@ fn some_args(
     Ok(Some(read_args(alloc, tokens, depth)?))
 }
 
+// [ParArgs]
 #[tactic(auto, unfolding(crate::specs::Rules::optional_args))]
 fn optional_args(
     alloc: Global,
@@ -97,6 +103,7 @@ fn optional_args(
     }
 }
 
+// 'with' id
 #[tactic(auto, unfolding(crate::specs::Rules::next_trait))]
 fn next_trait(alloc: Global, tokens: &mut Cursor<'_>) -> Result<Ident, Stopped>
     ensures { Reads (spec.next_trait tokens.old) result tokens.new }
@@ -105,6 +112,7 @@ fn next_trait(alloc: Global, tokens: &mut Cursor<'_>) -> Result<Ident, Stopped>
     name(alloc, tokens)
 }
 
+// {'with' id}
 #[tactic(auto, unfolding(crate::specs::Rules::traits))]
 fn traits(alloc: Global, tokens: &mut Cursor<'_>) -> Result<Items<Ident>, Stopped>
     ensures { Reads (spec.traits tokens.old) result tokens.new }
@@ -116,6 +124,7 @@ fn traits(alloc: Global, tokens: &mut Cursor<'_>) -> Result<Items<Ident>, Stoppe
     Ok(found)
 }
 
+// 'extends' id [ParArgs] {'with' id}
 #[tactic(auto, unfolding(crate::specs::Rules::parents))]
 fn parents(alloc: Global, tokens: &mut Cursor<'_>, depth: usize) -> Result<Option<Parents>, Stopped>
     ensures { Reads (spec.parents depth tokens.old) result tokens.new }
@@ -131,6 +140,7 @@ fn parents(alloc: Global, tokens: &mut Cursor<'_>, depth: usize) -> Result<Optio
     }))
 }
 
+// ['extends' id [ParArgs] {'with' id}]
 #[tactic(auto, unfolding(crate::specs::Rules::optional_parents))]
 fn optional_parents(
     alloc: Global,

@@ -17,6 +17,7 @@ pub fn typed(alloc: Global, tokens: &mut Cursor<'_>) -> Result<TypeTree, Stopped
     type_tree(alloc, tokens)
 }
 
+// ':' Type, as a type that is there.
 #[tactic(auto, unfolding(crate::specs::Rules::some_type))]
 fn some_type(alloc: Global, tokens: &mut Cursor<'_>) -> Result<Option<TypeTree>, Stopped>
     ensures { Reads (spec.some_type tokens.old) result tokens.new }
@@ -45,6 +46,7 @@ pub fn value(alloc: Global, tokens: &mut Cursor<'_>, depth: usize) -> Result<Exp
     read_expr(alloc, tokens, depth)
 }
 
+// '=' Expr, as a right side that is there.
 #[tactic(auto, unfolding(crate::specs::Rules::some_value))]
 fn some_value(alloc: Global, tokens: &mut Cursor<'_>, depth: usize) -> Result<Option<Expr>, Stopped>
     ensures { Reads (spec.some_value depth tokens.old) result tokens.new }

@@ -13,30 +13,35 @@ ghost use Rattle.sl_parse_tmpl.specs.Words as words;
 use sl_ast::ClassModifier;
 use sl_parse_expr::{Ahead, Cursor, begins_binding, begins_expr, separates};
 
+/// Whether it is `override` or `private`.
 pub fn is_modifier(next: Ahead) -> bool
     ensures { result ≡ words.is_modifier next }
 {
     next.is(Ahead::Override) || next.is(Ahead::Private)
 }
 
+/// Whether it is `sealed` or `abstract`.
 pub fn is_class_modifier(next: Ahead) -> bool
     ensures { result ≡ words.is_class_modifier next }
 {
     next.is(Ahead::Sealed) || next.is(Ahead::Abstract)
 }
 
+/// Whether it begins a definition of a member.
 pub fn begins_definition(next: Ahead) -> bool
     ensures { result ≡ words.begins_definition next }
 {
     is_modifier(next) || begins_binding(next) || next.is(Ahead::Lazy) || next.is(Ahead::Def)
 }
 
+/// Whether it begins a member of a template.
 pub fn begins_member(next: Ahead) -> bool
     ensures { result ≡ words.begins_member next }
 {
     begins_definition(next) || begins_expr(next)
 }
 
+/// Whether it begins a class, trait or object.
 pub fn begins_top(next: Ahead) -> bool
     ensures { result ≡ words.begins_top next }
 {

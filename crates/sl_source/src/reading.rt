@@ -8,7 +8,7 @@ use crate::refusal::{Refusal, SourceFault};
 use sl_ast::Token;
 use sl_lexer::{LexFault, LexKind, lex, lexing};
 use sl_newline::separate;
-use sl_text::{Text, place};
+use sl_text::{Text, spot_at};
 use std::alloc::Global;
 
 /// The tokens of a text with newlines between them, or its first fault.
@@ -36,6 +36,6 @@ fn refused(text: &Text, fault: LexFault) -> SourceFault
     }
     SourceFault::Refused(Refusal::Lex {
         fault,
-        spot: place(text, fault.span.from),
+        spot: spot_at(text, fault.span.from),
     })
 }

@@ -9,8 +9,8 @@ use crate::source::Source;
 use sl_ast::{Token, Unit};
 use sl_lexer::lexing;
 use sl_newline::separated;
-use sl_parse_tmpl::{ParseFault, ParseKind, parse, placing};
-use sl_text::{Text, place};
+use sl_parse_tmpl::{ParseFault, ParseKind, parse, parsing};
+use sl_text::{Text, spot_at};
 use std::alloc::Global;
 
 /// The tree of a text beside the text, or its first fault.
@@ -43,12 +43,12 @@ fn refused(text: &Text, tokens: &[Token], fault: ParseFault) -> SourceFault
 {
     lexing();
     separated();
-    placing();
+    parsing();
     if fault.kind == ParseKind::Memory {
         return SourceFault::Memory;
     }
     SourceFault::Refused(Refusal::Parse {
         fault,
-        spot: place(text, fault.span.from),
+        spot: spot_at(text, fault.span.from),
     })
 }

@@ -1,4 +1,4 @@
--- One character further, and that a place has one line and one column.
+-- One character further, and that an offset has one line and one column.
 use Rattle.std.proofs.Common.{◌≡◌, ◌≢◌, refl, ℕ, ◌+◌, ◌-◌, ◌<◌, ◌≤◌, List, length, get_or, ap, sym, ◌∙◌, arith, inl, inr, ◌⊎◌, eq-eqb}
 use Rattle.std.proofs.lemmas.Bool.{ne_eqb}
 use Rattle.std.proofs.lemmas.List.Sums.{count_by_more_no, count_by_more_yes}
@@ -41,7 +41,7 @@ step_on text i line column lt n h =
 pub line_one : (text : List ℕ) (at l c m d : ℕ) → IsSpot text at l c → IsSpot text at m d → l ≡ m
 line_one text at l c m d h k = h.lines ∙ sym k.lines
 
--- no line begins behind the start of the place's line
+-- no line begins behind the start of the line of an offset
 not_behind : (text : List ℕ) (at l c m d : ℕ) (h : IsSpot text at l c) (k : IsSpot text at m d) → ¬ (h.start < k.start)
 not_behind text at l c m d h k lt = elim k.starts [
   | inl e ↦ omega arith

@@ -5,7 +5,7 @@ ghost use Rattle.sl_text.specs.Utf8.{IsScalarValue, Encodes, Spells, IsWellForme
 ghost use Rattle.sl_text.specs.Spot.{IsSpot};
 
 /// UTF-8: each scalar value has one sequence and no other number has any; bytes spell one text or have
-/// a first ill-formed sequence, never both, and only one such text or place.
+/// a first ill-formed sequence, never both, and only one such text or offset.
 pub fn encoding()
     ensures all { (c : ℕ) → IsScalarValue c → (bytes : List ℕ) × Encodes bytes c }
     ensures scalar { (bytes : List ℕ) (c : ℕ) → Encodes bytes c → IsScalarValue c }

@@ -16,7 +16,7 @@ mod text_fault;
 use decode::{collected, validated};
 pub use laws::{encoding, spots};
 pub use span::Span;
-pub use spot::{Spot, place};
+pub use spot::{Spot, spot_at};
 use std::alloc::Global;
 pub use text::Text;
 pub use text_fault::TextFault;

@@ -13,7 +13,7 @@ pub struct Spot {
 }
 
 /// The line and the column of an offset, which may be the text's end. LF alone ends a line.
-pub fn place(text: &Text, at: u32) -> Spot
+pub fn spot_at(text: &Text, at: u32) -> Spot
     requires { at ≤ length text.now }
     ensures { IsSpot text.now at result.line result.column }
 {

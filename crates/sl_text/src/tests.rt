@@ -90,7 +90,7 @@ fn fault_in(
     Ok((at, chars_of(alloc, &bytes).err()))
 }
 
-// At each place in a block of 64 bytes that matters, and in a part of 1024.
+// At each offset in a block of 64 bytes that matters, and in a part of 1024.
 fn is_refused_everywhere(alloc: Global, ill_formed: &[u8]) -> Result<bool, AllocError> {
     for ascii in [0, 60, 61, 62, 63, 64, 1022, 1023, 1024] {
         for front in ["", "a", "\n", "ß", "€", "😀", "aß€😀"] {
@@ -219,7 +219,7 @@ fn lines_and_columns(rt: HostRuntime) -> Result<(), Fail> {
         };
         assert!(rt; at <= text.len());
         assert_eq!(rt;
-            place(&text, at),
+            spot_at(&text, at),
             Spot { line, column },
             "{chars:?} at {at}"
         );

@@ -35,8 +35,8 @@ abbrev pub in_column : ℕ → List ℕ → List ℕ
 in_column column more = codes ":" ++ (decimal column ++ more)
 
 -- `NAME:LINE:COLUMN: lex KIND`, with its LF
-abbrev pub placed_line : List ℕ → Spot → List ℕ → List ℕ → List ℕ
-placed_line name spot phase word = in_line name spot.line ++ (in_column spot.column phase ++ (word ++ 10 ∷ []))
+abbrev pub spot_line : List ℕ → Spot → List ℕ → List ℕ → List ℕ
+spot_line name spot phase word = in_line name spot.line ++ (in_column spot.column phase ++ (word ++ 10 ∷ []))
 
 -- `NAME: byte N: not UTF-8`, with its LF
 abbrev pub byte_line : List ℕ → ℕ → List ℕ
@@ -45,5 +45,5 @@ byte_line name at = (name ++ (codes ": byte " ++ decimal at)) ++ (codes ": not U
 -- the line of a first fault, behind the name of its file
 abbrev pub refusal_line : List ℕ → Refusal → List ℕ
 refusal_line name (NotUtf8 at) = byte_line name at
-refusal_line name (Lex fault spot) = placed_line name spot (codes ": lex ") (lex_word fault.kind)
-refusal_line name (Parse fault spot) = placed_line name spot (codes ": parse ") (parse_word fault.kind)
+refusal_line name (Lex fault spot) = spot_line name spot (codes ": lex ") (lex_word fault.kind)
+refusal_line name (Parse fault spot) = spot_line name spot (codes ": parse ") (parse_word fault.kind)

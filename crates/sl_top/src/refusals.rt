@@ -4,7 +4,7 @@ ghost use Rattle.std.specs.Prelude.{◌≡◌, OnOk, OnErr};
 ghost use Rattle.sl_io.specs.Counts.{Rose};
 ghost use Rattle.sl_io.specs.Gains.{Gains, GainsFront};
 ghost use Rattle.sl_io.specs.SinkFault.{OnSinkFailed, OnSinkMemory};
-ghost use Rattle.sl_top.specs.Refusals.{lex_word, parse_word, placed_line, byte_line, refusal_line};
+ghost use Rattle.sl_top.specs.Refusals.{lex_word, parse_word, spot_line, byte_line, refusal_line};
 
 use crate::outcome::write_parts;
 use itoa::Buffer;
@@ -43,7 +43,7 @@ fn parse_word(kind: ParseKind) -> &'static [u8]
 }
 
 // Writes the line of a fault at its line and column.
-fn write_placed<E: Sink>(
+fn write_spot_line<E: Sink>(
     err: &mut E,
     name: &[u8],
     spot: Spot,
@@ -51,9 +51,9 @@ fn write_placed<E: Sink>(
     word: &[u8],
 ) -> Result<(), SinkFault>
     ensures whole { OnOk result
-        (Gains (E.contents err.old) (placed_line name.now spot phase.now word.now) (E.contents err.new)) }
+        (Gains (E.contents err.old) (spot_line name.now spot phase.now word.now) (E.contents err.new)) }
     ensures front { OnErr result
-        (GainsFront (E.contents err.old) (placed_line name.now spot phase.now word.now) (E.contents err.new)) }
+        (GainsFront (E.contents err.old) (spot_line name.now spot phase.now word.now) (E.contents err.new)) }
     ensures failed { OnSinkFailed result (Rose (E.faults err.old) (E.faults err.new)) }
     ensures quiet { OnOk result (E.faults err.new ≡ E.faults err.old) }
     ensures memory { OnSinkMemory result (E.faults err.new ≡ E.faults err.old) }
@@ -89,10 +89,10 @@ pub fn write_refusal<E: Sink>(err: &mut E, name: &[u8], refusal: Refusal) -> Res
     match refusal {
         Refusal::NotUtf8 { at } => write_byte(err, name, at),
         Refusal::Lex { fault, spot } => {
-            write_placed(err, name, spot, b": lex ", lex_word(fault.kind))
+            write_spot_line(err, name, spot, b": lex ", lex_word(fault.kind))
         }
         Refusal::Parse { fault, spot } => {
-            write_placed(err, name, spot, b": parse ", parse_word(fault.kind))
+            write_spot_line(err, name, spot, b": parse ", parse_word(fault.kind))
         }
     }
 }

@@ -12,7 +12,7 @@ pub struct Options {
     pub budget: u32,
     /// How many steps a thread takes in its turn of a round robin, from 1 to 1,000.
     pub quantum: u32,
-    /// The file of the turns to be made, in place of a round robin.
+    /// The file of the turns to be made, instead of a round robin.
     pub turns: Option<Name>,
     /// The file in which the schedule is recorded.
     pub save: Option<Name>,

@@ -26,6 +26,7 @@ abbrev pub plain_converted : Program → Heap → Ty → Value → Answer
 plain_converted p h type value.Null = gives (default_of type)
 plain_converted p h type v = fitting p h type v
 
+-- whether a type is Int or Long
 abbrev pub is_number : Ty → Bool
 is_number ty.Int = true
 is_number ty.Long = true

@@ -44,6 +44,7 @@ fn selected(p: &Program, of: u32, m: Option<&Method>) -> Option<(u32, u32)>
     }
 }
 
+// A call of a member of this object, by what its class selects.
 fn call_on(p: &Program, h: &Heap, class: u32, method: u32, this: Value, rest: Args) -> Answer
     ensures { result ≡ of_object h.now this (λ r o. enters (value.Ref r) rest (selected p.now o.class (method_at p.now class method))) }
 {

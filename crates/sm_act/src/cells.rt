@@ -3,12 +3,12 @@
 ghost use Rattle.std.specs.Prelude.{◌≡◌, IfOk};
 ghost use Rattle.std.specs.Option.{option_copied};
 ghost use Rattle.sm_rule.specs.Perform.{init_entry, of_object, cell_read, cell_read_at};
-ghost use Rattle.sm_state.specs.Layout.{cell_place};
+ghost use Rattle.sm_state.specs.Layout.{cell_number};
 
 use crate::fields::{gives, on_null, throws};
 use sl_base::NoMemory;
 use sm_rule::{Answer, Edit};
-use sm_state::{Entry, Heap, Object, Once, Part, Sequence, Value, cell_place};
+use sm_state::{Entry, Heap, Object, Once, Part, Sequence, Value, cell_number};
 use std::alloc::Global;
 use ty_prog::Program;
 
@@ -23,6 +23,7 @@ fn init_entry(alloc: Global, class: u32, cell: u32, r: u32) -> Entry
     }
 }
 
+// A read of a cell by what it is.
 fn read_once(
     alloc: Global,
     t: u32,
@@ -55,6 +56,7 @@ fn read_once(
     }
 }
 
+// A read of a cell by its number in the object.
 fn read_at(
     alloc: Global,
     t: u32,
@@ -62,11 +64,11 @@ fn read_at(
     cell: u32,
     r: u32,
     o: &Object,
-    place: Option<usize>,
+    number: Option<usize>,
 ) -> Result<Answer, NoMemory>
-    ensures { IfOk result (λ a. a ≡ cell_read_at t class cell r o.now place) }
+    ensures { IfOk result (λ a. a ≡ cell_read_at t class cell r o.now number) }
 {
-    match place {
+    match number {
         Some(at) => read_once(alloc, t, class, cell, r, at, o.cells.get(at)),
         None => Ok(Answer::Wrong),
     }
@@ -82,13 +84,13 @@ pub(crate) fn read_cell(
     class: u32,
     cell: u32,
 ) -> Result<Answer, NoMemory>
-    ensures { IfOk result (λ a. a ≡ of_object h.now of.now (λ r o. cell_read_at t class cell r o (cell_place p.now.classes o.class class cell))) }
+    ensures { IfOk result (λ a. a ≡ of_object h.now of.now (λ r o. cell_read_at t class cell r o (cell_number p.now.classes o.class class cell))) }
 {
     match of {
         Value::Ref(r) => match h.objects.get(*r as usize) {
             Some(o) => {
-                let place = cell_place(p.classes.as_slice(), o.class, class, cell)?;
-                read_at(alloc, t, class, cell, *r, o, place)
+                let number = cell_number(p.classes.as_slice(), o.class, class, cell)?;
+                read_at(alloc, t, class, cell, *r, o, number)
             }
             None => Ok(Answer::Wrong),
         },

@@ -13,7 +13,8 @@ use sm_state::{Heap, Object, Sequence, Value};
 use std::alloc::Global;
 use ty_prog::{Program, find};
 
-fn class_name(alloc: Global, p: &Program, class: u32) -> Result<Option<Name>, NoMemory>
+/// The name of a class.
+pub fn class_name(alloc: Global, p: &Program, class: u32) -> Result<Option<Name>, NoMemory>
     ensures { IfOk result (λ name. name ≡ class_name p.now class) }
 {
     match p.classes.get(class as usize) {

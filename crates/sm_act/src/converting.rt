@@ -31,7 +31,8 @@ fn instance_of(p: &Program, class: u32, o: Option<&Object>) -> bool
     }
 }
 
-fn is_instance(p: &Program, h: &Heap, class: u32, r: u32) -> bool
+/// Whether the object with this number is of a class or of one below it.
+pub fn is_instance(p: &Program, h: &Heap, class: u32, r: u32) -> bool
     ensures { result ≡ is_instance p.now h.now class r }
 {
     instance_of(p, class, h.objects.get(r as usize))
@@ -72,6 +73,7 @@ fn low_bits(n: i64) -> i32
     low.cast_signed()
 }
 
+// A value converted to Int: of a Long the low 32 bits.
 fn to_int(p: &Program, h: &Heap, v: Value) -> Answer
     ensures { result ≡ converted p.now h.now ty.Int v }
 {
@@ -82,6 +84,7 @@ fn to_int(p: &Program, h: &Heap, v: Value) -> Answer
     }
 }
 
+// A value converted to Long.
 fn to_long(p: &Program, h: &Heap, v: Value) -> Answer
     ensures { result ≡ converted p.now h.now ty.Long v }
 {

@@ -3,13 +3,13 @@
 ghost use Rattle.std.specs.Prelude.{◌≡◌, IfOk, option_map};
 ghost use Rattle.std.specs.Option.{option_copied};
 ghost use Rattle.sm_rule.specs.Perform.{gives, throws, on_null, bad_cast, of_object, value_or_wrong, read, written, exchanged_if, exchanged_at, exchanged};
-ghost use Rattle.sm_state.specs.Layout.{field_place};
+ghost use Rattle.sm_state.specs.Layout.{field_number};
 ghost use Rattle.sm_rule.specs.declared.answer.Edit.TheVariants as edit;
 
 use sl_base::NoMemory;
 use sm_decide::same;
 use sm_rule::{Answer, Edit};
-use sm_state::{Heap, Object, Value, field_place};
+use sm_state::{Heap, Object, Value, field_number};
 use std::alloc::Global;
 use ty_prog::Program;
 
@@ -56,10 +56,11 @@ fn value_or_wrong(alloc: Global, v: Option<&Value>) -> Result<Answer, NoMemory>
     }
 }
 
-fn read_at(alloc: Global, o: &Object, place: Option<usize>) -> Result<Answer, NoMemory>
-    ensures { IfOk result (λ a. a ≡ read o.now place) }
+// The value of a field by its number in the object.
+fn read_at(alloc: Global, o: &Object, number: Option<usize>) -> Result<Answer, NoMemory>
+    ensures { IfOk result (λ a. a ≡ read o.now number) }
 {
-    match place {
+    match number {
         Some(at) => value_or_wrong(alloc, o.fields.get(at)),
         None => Ok(Answer::Wrong),
     }
@@ -74,13 +75,13 @@ pub(crate) fn read(
     class: u32,
     field: u32,
 ) -> Result<Answer, NoMemory>
-    ensures { IfOk result (λ a. a ≡ of_object h.now of.now (λ r o. read o (field_place p.now.classes o.class class field))) }
+    ensures { IfOk result (λ a. a ≡ of_object h.now of.now (λ r o. read o (field_number p.now.classes o.class class field))) }
 {
     match of {
         Value::Ref(r) => match h.objects.get(*r as usize) {
             Some(o) => {
-                let place = field_place(p.classes.as_slice(), o.class, class, field)?;
-                read_at(alloc, o, place)
+                let number = field_number(p.classes.as_slice(), o.class, class, field)?;
+                read_at(alloc, o, number)
             }
             None => Ok(Answer::Wrong),
         },
@@ -89,10 +90,10 @@ pub(crate) fn read(
     }
 }
 
-fn written(r: u32, new: Value, place: Option<usize>) -> Answer
-    ensures { result ≡ written r new place }
+fn written(r: u32, new: Value, number: Option<usize>) -> Answer
+    ensures { result ≡ written r new number }
 {
-    match place {
+    match number {
         Some(at) => Answer::Gives {
             edit: Edit::Field {
                 object: r,
@@ -114,13 +115,13 @@ pub(crate) fn write(
     field: u32,
     new: Value,
 ) -> Result<Answer, NoMemory>
-    ensures { IfOk result (λ a. a ≡ of_object h.now of.now (λ r o. written r new (field_place p.now.classes o.class class field))) }
+    ensures { IfOk result (λ a. a ≡ of_object h.now of.now (λ r o. written r new (field_number p.now.classes o.class class field))) }
 {
     match of {
         Value::Ref(r) => match h.objects.get(*r as usize) {
             Some(o) => {
-                let place = field_place(p.classes.as_slice(), o.class, class, field)?;
-                Ok(written(*r, new, place))
+                let number = field_number(p.classes.as_slice(), o.class, class, field)?;
+                Ok(written(*r, new, number))
             }
             None => Ok(Answer::Wrong),
         },
@@ -146,10 +147,10 @@ fn exchanged_if(r: u32, at: usize, new: Value, is_old: bool) -> Answer
     }
 }
 
-fn exchanged(r: u32, o: &Object, old: &Value, new: Value, place: Option<usize>) -> Answer
-    ensures { result ≡ exchanged r o.now old.now new place }
+fn exchanged(r: u32, o: &Object, old: &Value, new: Value, number: Option<usize>) -> Answer
+    ensures { result ≡ exchanged r o.now old.now new number }
 {
-    match place {
+    match number {
         Some(at) => match o.fields.get(at) {
             Some(v) => exchanged_if(r, at, new, same(old, v)),
             None => Answer::Wrong,
@@ -168,13 +169,13 @@ pub(crate) fn exchange(
     old: &Value,
     new: Value,
 ) -> Result<Answer, NoMemory>
-    ensures { IfOk result (λ a. a ≡ of_object h.now of.now (λ r o. exchanged r o old.now new (field_place p.now.classes o.class class field))) }
+    ensures { IfOk result (λ a. a ≡ of_object h.now of.now (λ r o. exchanged r o old.now new (field_number p.now.classes o.class class field))) }
 {
     match of {
         Value::Ref(r) => match h.objects.get(*r as usize) {
             Some(o) => {
-                let place = field_place(p.classes.as_slice(), o.class, class, field)?;
-                Ok(exchanged(*r, o, old, new, place))
+                let number = field_number(p.classes.as_slice(), o.class, class, field)?;
+                Ok(exchanged(*r, o, old, new, number))
             }
             None => Ok(Answer::Wrong),
         },

@@ -13,7 +13,7 @@ use std::alloc::Global;
 use ty_prog::Program;
 
 /// The next number of a list of this length, where there is room for it.
-pub(crate) fn number(len: usize) -> Result<u32, NoMemory>
+pub fn number(len: usize) -> Result<u32, NoMemory>
     ensures { IfOk result (λ n. n ≡ len) }
 {
     if len < 1 << 32 {

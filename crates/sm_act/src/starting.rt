@@ -3,14 +3,14 @@
 ghost use Rattle.std.specs.Prelude.{◌≡◌, IfOk};
 ghost use Rattle.std.specs.Option.{option_copied};
 ghost use Rattle.sm_rule.specs.Perform.{of_object, run_entry, starts_if, starts_in, starts_on, starts_fresh, field_at, starts};
-ghost use Rattle.sm_state.specs.Layout.{field_place};
+ghost use Rattle.sm_state.specs.Layout.{field_number};
 ghost use Rattle.sm_act.specs.Forms.{marked};
 
 use crate::fields::{on_null, throws};
 use sl_base::NoMemory;
 use sm_decide::plain;
 use sm_rule::{Answer, Edit};
-use sm_state::{Entry, Heap, Object, Part, Sequence, Value, field_place};
+use sm_state::{Entry, Heap, Object, Part, Sequence, Value, field_number};
 use std::alloc::Global;
 use ty_prog::{Program, find};
 
@@ -109,10 +109,10 @@ fn starts_fresh(
     }
 }
 
-fn field_at(o: &Object, place: Option<usize>) -> Option<&Value>
-    ensures { option_copied result ≡ field_at o.now place }
+fn field_at(o: &Object, number: Option<usize>) -> Option<&Value>
+    ensures { option_copied result ≡ field_at o.now number }
 {
-    match place {
+    match number {
         Some(at) => o.fields.get(at),
         None => None,
     }
@@ -124,13 +124,13 @@ fn starts(
     h: &Heap,
     r: u32,
     o: &Object,
-    place: Option<usize>,
+    number: Option<usize>,
 ) -> Result<Answer, NoMemory>
-    ensures { IfOk result (λ a. a ≡ starts p.now h.now r o.now place) }
+    ensures { IfOk result (λ a. a ≡ starts p.now h.now r o.now number) }
 {
-    match place {
+    match number {
         Some(at) => {
-            let target = field_place(p.classes.as_slice(), o.class, 1, 0)?;
+            let target = field_number(p.classes.as_slice(), o.class, 1, 0)?;
             starts_fresh(alloc, p, h, r, at, o.fields.get(at), field_at(o, target))
         }
         None => Ok(Answer::Wrong),
@@ -139,13 +139,13 @@ fn starts(
 
 /// A thread is started.
 pub(crate) fn start(alloc: Global, p: &Program, h: &Heap, v: &Value) -> Result<Answer, NoMemory>
-    ensures { IfOk result (λ a. a ≡ of_object h.now v.now (λ r o. starts p.now h.now r o (field_place p.now.classes o.class 1 1))) }
+    ensures { IfOk result (λ a. a ≡ of_object h.now v.now (λ r o. starts p.now h.now r o (field_number p.now.classes o.class 1 1))) }
 {
     match v {
         Value::Ref(r) => match h.objects.get(*r as usize) {
             Some(o) => {
-                let place = field_place(p.classes.as_slice(), o.class, 1, 1)?;
-                starts(alloc, p, h, *r, o, place)
+                let number = field_number(p.classes.as_slice(), o.class, 1, 1)?;
+                starts(alloc, p, h, *r, o, number)
             }
             None => Ok(Answer::Wrong),
         },

@@ -10,6 +10,7 @@ use sm_decide::plain;
 use sm_state::Value;
 use std::alloc::Global;
 
+// The decimal text of an Int.
 #[tactic(auto, using(crate::proofs::Listed::ascii_chars))]
 fn int_text(alloc: Global, n: i32) -> Result<Name, NoMemory>
     ensures { IfOk result (λ text. text ≡ signed_decimal n) }
@@ -18,6 +19,7 @@ fn int_text(alloc: Global, n: i32) -> Result<Name, NoMemory>
     Ok(Name::from_text(alloc, buffer.format(n))?)
 }
 
+// The decimal text of a Long.
 #[tactic(auto, using(crate::proofs::Listed::ascii_chars))]
 fn long_text(alloc: Global, n: i64) -> Result<Name, NoMemory>
     ensures { IfOk result (λ text. text ≡ signed_decimal n) }

@@ -8,7 +8,7 @@ use Rattle.ty_prog.specs.declared.kind.Kind.{Kind}
 use Rattle.ty_prog.specs.declared.kind.Kind.TheVariants as kind
 use Rattle.ty_prog.specs.declared.program.Program.{Program}
 use Rattle.sm_state.specs.Entering.{body_of, entered}
-use Rattle.sm_state.specs.Layout.{linear_of, cell_place, made}
+use Rattle.sm_state.specs.Layout.{linear_of, cell_number, made}
 use Rattle.sm_state.specs.declared.entry.Body.{Body}
 use Rattle.sm_state.specs.declared.entry.Entry.{Entry}
 use Rattle.sm_state.specs.declared.heap.Heap.{Heap}
@@ -33,7 +33,7 @@ use Rattle.sm_rule.specs.declared.moves.Move.TheVariants as move
 use Rattle.sm_rule.specs.Edits.{edited}
 use Rattle.sm_rule.specs.Moves.{handler_len, kept, begun, received, passed, expr_passed, unmatched, rethrown, caught}
 use Rattle.sm_rule.specs.Perform.{perform}
-use Rattle.sm_rule.specs.Step.{After, fails, enters, starts_in, started, done, at_child, child_begins, advances, parameter, opens, with_own, carried, sight, begins, ended_at, passes, carried_or_passed, receives, awaits_object, kind_of, module_edit, cell_edit_at, cell_edit_in, cell_edit, noted, leaves, hands_up, Landing, caught_at, landing, dropped, uncaught_in, uncaught, escapes, escapes_as, is_replaced, unwinds, begins_or_reads, next_of}
+use Rattle.sm_rule.specs.Step.{After, fails, enters, starts_in, started, done, at_child, child_begins, advances, parameter, opens, with_own, carried, sight, begins, ended_at, passes, carried_or_passed, receives, awaits_object, class_kind, module_edit, cell_edit_at, cell_edit_in, cell_edit, noted, leaves, hands_up, Landing, caught_at, landing, dropped, uncaught_in, uncaught, escapes, escapes_as, is_replaced, unwinds, begins_or_reads, next_of}
 use Rattle.sm_placed.proofs.Fitting.{Fits, SomeFits, received_fits, begun_fits, caught_fits}
 use Rattle.sm_cells.specs.Running.{cell_at, RunsCell, RunsIn}
 use Rattle.sm_cells.proofs.Editing.{SameClasses, edit_classes, classes_trans, ClaimsNone, RanBefore, cell_set, ran_before, made_at_rest}
@@ -44,7 +44,7 @@ use Rattle.sm_cells.proofs.Performing.{Claim, Claims, performs}
 pub runs_on : (p : Program) (h g : Heap) (i at : ℕ) (c : Context) → SameClasses h g → RunsCell p h i at c → RunsCell p g i at c
 runs_on p h g i at c same r =
     let x = same i r.of r.there in
-    record { cell = r.cell; part = r.part; this = r.this; of = x.0; there = x.1; place = ap (λ k. cell_place p.classes k c.class r.cell) x.2 ∙ r.place }
+    record { cell = r.cell; part = r.part; this = r.this; of = x.0; there = x.1; number = ap (λ k. cell_number p.classes k c.class r.cell) x.2 ∙ r.number }
 
 pub run_on : (p : Program) (h g : Heap) (i at : ℕ) (cs : List Context) → SameClasses h g → RunsIn p h i at cs → RunsIn p g i at cs
 run_on p h g i at [] same r = r
@@ -97,7 +97,7 @@ module _ (p : Program) (t : ℕ) where
   module _ (cs : List Context) where
     -- the same context further on in its part
     moved : (c : Context) (node : Tree) (levels : List Level) (os : List Value) (xs : List (Option Value)) → Onto p (c ∷ cs) (record c { node = node; levels = levels; operands = os; locals = xs } ∷ cs)
-    moved c node levels os xs g i at r = ⊎_elim (λ a. inl (record { cell = a.cell; part = a.part; this = a.this; of = a.of; there = a.there; place = a.place })) (λ b. inr b) r
+    moved c node levels os xs g i at r = ⊎_elim (λ a. inl (record { cell = a.cell; part = a.part; this = a.this; of = a.of; there = a.there; number = a.number })) (λ b. inr b) r
 
     abbrev Step : Context → Heap → After → Type 0
     Step c h x = StepKept p t h (c ∷ cs) x
@@ -164,7 +164,7 @@ module _ (p : Program) (t : ℕ) where
           owner u e = sym (ap number e)
 
           runs : (i at : ℕ) → claim.object ≡ i → claim.at ≡ at → RunsCell p (edited change h) i at (entered entry b)
-          runs i at is place =
+          runs i at is numbered =
               let x = edit_classes change h claim.object claim.of claim.there in
               record {
                 cell = claim.cell;
@@ -172,7 +172,7 @@ module _ (p : Program) (t : ℕ) where
                 this = ap (λ x. x.this) claim.entry_is ∙ ap value.Ref is;
                 of = x.0;
                 there = subst (λ j. slice_get (edited change h).objects j ≡ Some x.0) is x.1;
-                place = ap (λ k. cell_place p.classes k entry.class claim.cell) x.2 ∙ claim.place ∙ ap Some place;
+                number = ap (λ k. cell_number p.classes k entry.class claim.cell) x.2 ∙ claim.number ∙ ap Some numbered;
               }
 
       enters_kept : (h : Heap) (change : Edit) (entry : Entry) → ClaimsNone change ⊎ Claim p h t change entry → (o : Option Body) → Step c h (enters (edited change h) e cs entry o)
@@ -303,7 +303,7 @@ module _ (p : Program) (t : ℕ) where
 
     edit_in_none : (class cell r : ℕ) (x : Once) → ((u : ℕ) → x ≡ once.Running u → ⊥) → (o : Option Object) → ClaimsNone (cell_edit_in p class cell r x o)
     edit_in_none class cell r x rest None = tt
-    edit_in_none class cell r x rest (Some o) = edit_at_none r x rest (cell_place p.classes o.class class cell)
+    edit_in_none class cell r x rest (Some o) = edit_at_none r x rest (cell_number p.classes o.class class cell)
 
     edit_none : (h : Heap) (class cell : ℕ) (x : Once) → ((u : ℕ) → x ≡ once.Running u → ⊥) → (v : Value) → ClaimsNone (cell_edit p h class cell x v)
     edit_none h class cell x rest (value.Ref r) = edit_in_none class cell r x rest (slice_get h.objects r)
@@ -333,8 +333,8 @@ module _ (p : Program) (t : ℕ) where
         no_init e = cc
     told_ends h c x other rest (part.Init cell) is i at u r ran =
         let same : r.cell ≡ cell = ap cell_of (sym r.part ∙ is) in
-        let place : cell_place p.classes r.of.class c.class cell ≡ Some at = ap (λ k. cell_place p.classes r.of.class c.class k) (sym same) ∙ r.place in
-        let change : cell_edit p h c.class cell x c.this ≡ edit.Cell i at x = ap (cell_edit p h c.class cell x) r.this ∙ ap (cell_edit_in p c.class cell i x) r.there ∙ ap (cell_edit_at i x) place in
+        let numbered : cell_number p.classes r.of.class c.class cell ≡ Some at = ap (λ k. cell_number p.classes r.of.class c.class k) (sym same) ∙ r.number in
+        let change : cell_edit p h c.class cell x c.this ≡ edit.Cell i at x = ap (cell_edit p h c.class cell x) r.this ∙ ap (cell_edit_in p c.class cell i x) r.there ∙ ap (cell_edit_at i x) numbered in
         ⊎_elim (λ set. rest u set.2) (λ not_set. not_set.1 refl refl) (cell_set h i at x i at u (subst (λ y. cell_at (edited y h) i at ≡ Some (once.Running u)) change ran))
 
     told_kept : (h : Heap) (c : Context) (x : Once) (other : Edit) → ((u : ℕ) → x ≡ once.Running u → ⊥) → ClaimsNone other → Kept p t h (c ∷ cs) (edited (told h c x other c.part) h) cs
@@ -355,12 +355,12 @@ module _ (p : Program) (t : ℕ) where
     module_none class state kind.Abstract = tt
     module_none class state kind.Trait = tt
 
-    noted_is : (h : Heap) (c : Context) (v : Value) (y : Part) → told h c (once.Done v) (module_edit c.class (modules.Ready c.this) (kind_of p c.class)) y ≡ noted p h c v y
+    noted_is : (h : Heap) (c : Context) (v : Value) (y : Part) → told h c (once.Done v) (module_edit c.class (modules.Ready c.this) (class_kind p c.class)) y ≡ noted p h c v y
     noted_is h c v (part.Method m) = refl
     noted_is h c v (part.Init cell) = refl
     noted_is h c v part.Constructor = refl
 
-    dropped_is : (h : Heap) (c : Context) (y : Part) → told h c once.Empty (module_edit c.class modules.Bad (kind_of p c.class)) y ≡ dropped p h c y
+    dropped_is : (h : Heap) (c : Context) (y : Part) → told h c once.Empty (module_edit c.class modules.Bad (class_kind p c.class)) y ≡ dropped p h c y
     dropped_is h c (part.Method m) = refl
     dropped_is h c (part.Init cell) = refl
     dropped_is h c part.Constructor = refl
@@ -368,7 +368,7 @@ module _ (p : Program) (t : ℕ) where
     noted_kept : (h : Heap) (c : Context) (v : Value) → Kept p t h (c ∷ cs) (edited (noted p h c v c.part) h) cs
     noted_kept h c v =
         subst (λ change. Kept p t h (c ∷ cs) (edited change h) cs) (noted_is h c v c.part)
-        (told_kept h c (once.Done v) (module_edit c.class (modules.Ready c.this) (kind_of p c.class)) no_run (module_none c.class (modules.Ready c.this) (kind_of p c.class)))
+        (told_kept h c (once.Done v) (module_edit c.class (modules.Ready c.this) (class_kind p c.class)) no_run (module_none c.class (modules.Ready c.this) (class_kind p c.class)))
       where
         no_run : (u : ℕ) → once.Done v ≡ once.Running u → ⊥
         no_run u e = cc
@@ -376,7 +376,7 @@ module _ (p : Program) (t : ℕ) where
     dropped_kept : (h : Heap) (c : Context) → Kept p t h (c ∷ cs) (edited (dropped p h c c.part) h) cs
     dropped_kept h c =
         subst (λ change. Kept p t h (c ∷ cs) (edited change h) cs) (dropped_is h c c.part)
-        (told_kept h c once.Empty (module_edit c.class modules.Bad (kind_of p c.class)) no_run (module_none c.class modules.Bad (kind_of p c.class)))
+        (told_kept h c once.Empty (module_edit c.class modules.Bad (class_kind p c.class)) no_run (module_none c.class modules.Bad (class_kind p c.class)))
       where
         no_run : (u : ℕ) → once.Empty ≡ once.Running u → ⊥
         no_run u e = cc

@@ -6,7 +6,7 @@ use Rattle.ty_prog.specs.declared.program.Program.{Program}
 use Rattle.ty_prog.specs.declared.ty.Ty.{Ty}
 use Rattle.ty_prog.specs.declared.ty.Ty.TheVariants as ty
 use Rattle.sm_state.specs.Entering.{method_at}
-use Rattle.sm_state.specs.Layout.{linear_of, field_place, cell_place}
+use Rattle.sm_state.specs.Layout.{linear_of, field_number, cell_number}
 use Rattle.sm_state.specs.declared.entry.Entry.{Entry}
 use Rattle.sm_state.specs.declared.heap.Heap.{Heap}
 use Rattle.sm_state.specs.declared.heap.Object.{Object}
@@ -33,7 +33,7 @@ pub record Claim (p : Program) (h : Heap) (t : ℕ) (change : Edit) (entry : Ent
   pub at : ℕ
   pub of : Object
   pub there : slice_get h.objects object ≡ Some of
-  pub place : cell_place p.classes of.class entry.class cell ≡ Some at
+  pub number : cell_number p.classes of.class entry.class cell ≡ Some at
   pub edit_is : change ≡ edit.Cell object at (once.Running t)
   pub entry_is : entry ≡ Perform.init_entry entry.class cell object
 
@@ -92,15 +92,15 @@ module _ (p : Program) (h : Heap) (t : ℕ) where
   exchanged r o old new None = tt
   exchanged r o old new (Some at) = exchanged_at r at old new (slice_get o.fields at)
 
-  cell_read : (class cell r at : ℕ) (o : Object) → slice_get h.objects r ≡ Some o → cell_place p.classes o.class class cell ≡ Some at → (x : Option Once) → Fine (Perform.cell_read t class cell r at x)
-  cell_read class cell r at o there place None = tt
-  cell_read class cell r at o there place (Some once.Empty) = inr (record { object = r; cell = cell; at = at; of = o; there = there; place = place; edit_is = refl; entry_is = refl })
-  cell_read class cell r at o there place (Some (once.Running u)) = either (u == t) _ answer.Waits tt tt
-  cell_read class cell r at o there place (Some (once.Done v)) = tt
+  cell_read : (class cell r at : ℕ) (o : Object) → slice_get h.objects r ≡ Some o → cell_number p.classes o.class class cell ≡ Some at → (x : Option Once) → Fine (Perform.cell_read t class cell r at x)
+  cell_read class cell r at o there numbered None = tt
+  cell_read class cell r at o there numbered (Some once.Empty) = inr (record { object = r; cell = cell; at = at; of = o; there = there; number = numbered; edit_is = refl; entry_is = refl })
+  cell_read class cell r at o there numbered (Some (once.Running u)) = either (u == t) _ answer.Waits tt tt
+  cell_read class cell r at o there numbered (Some (once.Done v)) = tt
 
-  cell_read_at : (class cell r : ℕ) (o : Object) → slice_get h.objects r ≡ Some o → (x : Option ℕ) → cell_place p.classes o.class class cell ≡ x → Fine (Perform.cell_read_at t class cell r o x)
-  cell_read_at class cell r o there None place = tt
-  cell_read_at class cell r o there (Some at) place = cell_read class cell r at o there place (slice_get o.cells at)
+  cell_read_at : (class cell r : ℕ) (o : Object) → slice_get h.objects r ≡ Some o → (x : Option ℕ) → cell_number p.classes o.class class cell ≡ x → Fine (Perform.cell_read_at t class cell r o x)
+  cell_read_at class cell r o there None numbered = tt
+  cell_read_at class cell r o there (Some at) numbered = cell_read class cell r at o there numbered (slice_get o.cells at)
 
   module_read : (class : ℕ) (x : Option Module) → Fine (Perform.module_read t class x)
   module_read class None = tt
@@ -261,12 +261,12 @@ module _ (p : Program) (h : Heap) (t : ℕ) where
   latch_opened _ = tt
 
   pub performs : (a : Act) → Claims p h t (Perform.perform p h t a)
-  performs (act.Read of class field) = of_object of (λ r o. Perform.read o (field_place p.classes o.class class field)) (λ r o is. read o (field_place p.classes o.class class field))
-  performs (act.Write of class field new) = of_object of (λ r o. Perform.written r new (field_place p.classes o.class class field)) (λ r o is. written r new (field_place p.classes o.class class field))
+  performs (act.Read of class field) = of_object of (λ r o. Perform.read o (field_number p.classes o.class class field)) (λ r o is. read o (field_number p.classes o.class class field))
+  performs (act.Write of class field new) = of_object of (λ r o. Perform.written r new (field_number p.classes o.class class field)) (λ r o is. written r new (field_number p.classes o.class class field))
   performs (act.Exchange of class field old new) =
-      of_object of (λ r o. Perform.exchanged r o old new (field_place p.classes o.class class field)) (λ r o is. exchanged r o old new (field_place p.classes o.class class field))
+      of_object of (λ r o. Perform.exchanged r o old new (field_number p.classes o.class class field)) (λ r o is. exchanged r o old new (field_number p.classes o.class class field))
   performs (act.ReadCell of class cell) =
-      of_object of (λ r o. Perform.cell_read_at t class cell r o (cell_place p.classes o.class class cell)) (λ r o is. cell_read_at class cell r o is (cell_place p.classes o.class class cell) refl)
+      of_object of (λ r o. Perform.cell_read_at t class cell r o (cell_number p.classes o.class class cell)) (λ r o is. cell_read_at class cell r o is (cell_number p.classes o.class class cell) refl)
   performs (act.ReadModule class) = module_read class (slice_get h.modules class)
   performs (act.SetModule class of) = module_set class of (slice_get h.modules class)
   performs (act.Call class method args) =
@@ -286,7 +286,7 @@ module _ (p : Program) (h : Heap) (t : ℕ) where
   performs (act.Test of test) = tt
   performs (act.Unmatched v) = match_error (Perform.name_of p h v)
   performs (act.Print text) = tt
-  performs (act.Start v) = of_object v (λ r o. Perform.starts p h r o (field_place p.classes o.class 1 1)) (λ r o is. starts r o (field_place p.classes o.class 1 1))
+  performs (act.Start v) = of_object v (λ r o. Perform.starts p h r o (field_number p.classes o.class 1 1)) (λ r o is. starts r o (field_number p.classes o.class 1 1))
   performs act.Mine = tt
   performs (act.MakeLatch v) = latch_made v
   performs (act.IsMine v) = tt

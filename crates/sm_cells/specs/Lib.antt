@@ -1,1 +1,2 @@
+-- What a reader must believe, in this order.
 pub mod Running

@@ -3,7 +3,7 @@ use Rattle.std.specs.Prelude.{◌≡◌, ℕ, ◌⊎◌, List, [], ◌∷◌, Op
 use Rattle.std.specs.Option.{option_and_then}
 use Rattle.runs.specs.SharedHeap.{HeapState}
 use Rattle.ty_prog.specs.declared.program.Program.{Program}
-use Rattle.sm_state.specs.Layout.{cell_place}
+use Rattle.sm_state.specs.Layout.{cell_number}
 use Rattle.sm_state.specs.declared.heap.Heap.{Heap}
 use Rattle.sm_state.specs.declared.heap.Object.{Object}
 use Rattle.sm_state.specs.declared.once.Once.{Once}
@@ -13,18 +13,18 @@ use Rattle.sm_state.specs.declared.thread.Context.{Context}
 use Rattle.sm_state.specs.declared.thread.Thread.{Thread}
 use Rattle.sm_state.specs.declared.value.Value.TheVariants as value
 
--- the cell at a place of an object
+-- the cell with a number in an object
 abbrev pub cell_at : Heap → ℕ → ℕ → Option Once
 cell_at h object at = option_and_then (λ o. slice_get o.cells at) (slice_get h.objects object)
 
--- the context is of the initialiser of the cell at this place of this object
+-- the context is of the initialiser of the cell with this number in this object
 pub record RunsCell (p : Program) (h : Heap) (object at : ℕ) (c : Context) : Type 0 where
   pub cell : ℕ
   pub part : c.part ≡ part.Init cell
   pub this : c.this ≡ value.Ref object
   pub of : Object
   pub there : slice_get h.objects object ≡ Some of
-  pub place : cell_place p.classes of.class c.class cell ≡ Some at
+  pub number : cell_number p.classes of.class c.class cell ≡ Some at
 
 -- one of the contexts is
 abbrev pub RunsIn : Program → Heap → ℕ → ℕ → List Context → Type 0

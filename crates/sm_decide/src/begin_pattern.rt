@@ -14,6 +14,7 @@ use sm_state::{Stack, Value};
 use std::alloc::Global;
 use ty_prog::{Pattern, Tested, Ty};
 
+// A test of the value for a type.
 fn test(alloc: Global, v: &Value, ty: Ty) -> Result<Move, NoMemory>
     ensures { IfOk result (λ m. m ≡ move.Do (act.Test v.now (tested.OfType ty))) }
 {
@@ -33,6 +34,7 @@ fn keep(alloc: Global, v: &Value) -> Result<Move, NoMemory>
     })
 }
 
+// A pattern of a case class: the value is tested, or its first part begins.
 fn making(alloc: Global, v: &Value, class: u32, parts: &[Pattern]) -> Result<Move, NoMemory>
     ensures { IfOk result (λ m. m ≡ making_begun v.now class (map to_one parts.now)) }
 {
@@ -47,6 +49,7 @@ fn making(alloc: Global, v: &Value, class: u32, parts: &[Pattern]) -> Result<Mov
     }
 }
 
+// Alternatives: the first begins.
 fn either(alloc: Global, v: &Value, parts: &[Pattern]) -> Result<Move, NoMemory>
     ensures { IfOk result (λ m. m ≡ either_begun v.now (map to_one parts.now)) }
 {
@@ -57,6 +60,7 @@ fn either(alloc: Global, v: &Value, parts: &[Pattern]) -> Result<Move, NoMemory>
     }
 }
 
+// A pattern by its form, with the value that it looks at.
 fn look(alloc: Global, v: &Value, p: &Pattern) -> Result<Move, NoMemory>
     ensures { IfOk result (λ m. m ≡ looked v.now (pattern_form (out-Pattern p.now))) }
 {

@@ -1,8 +1,7 @@
-//! The move of a node that begins.
+//! The moves of nodes that begin, by their forms.
 
 ghost use Rattle.std.specs.Prelude.{◌≡◌, [], ◌∷◌, Some, map, reverse, IfOk, slice_get, length, option_map};
 ghost use Rattle.std.specs.Option.{option_copied};
-ghost use Rattle.ty_prog.specs.Node.{tree_of};
 ghost use Rattle.ty_prog.specs.Shape.{shape, to_one};
 ghost use Rattle.ty_prog.specs.Tree.{ExprTree};
 ghost use Rattle.ty_prog.specs.declared.stage.Stage.TheVariants as stage;
@@ -11,7 +10,6 @@ ghost use Rattle.sm_rule.specs.Step.{sight, child_number};
 ghost use Rattle.sm_rule.specs.declared.moves.Move.TheVariants as move;
 ghost use Rattle.sm_rule.specs.declared.act.Act.TheVariants as act;
 
-use crate::begin_pattern::begin_pattern;
 use crate::operands::push_some;
 use crate::texts::plain;
 use sl_base::{Name, NoMemory};
@@ -19,8 +17,9 @@ use sm_rule::{Act, Args, Move};
 use sm_state::{Context, Level, Sequence, Stack, Value};
 use sqlite_items::Boxed;
 use std::alloc::Global;
-use ty_prog::{Expr, Node, PrimOp, Stage};
+use ty_prog::{Expr, PrimOp, Stage};
 
+// The value of a local, if it is set.
 fn given_local(alloc: Global, v: Option<&Option<Value>>) -> Result<Move, NoMemory>
     ensures { IfOk result (λ m. m ≡ set_local (option_copied v.entry)) }
 {
@@ -30,6 +29,7 @@ fn given_local(alloc: Global, v: Option<&Option<Value>>) -> Result<Move, NoMemor
     }
 }
 
+// An operator without operands.
 fn lone(op: PrimOp) -> Move
     ensures { result ≡ lone op }
 {
@@ -40,12 +40,14 @@ fn lone(op: PrimOp) -> Move
     }
 }
 
+// The first operand begins, or where there is none, something else is done.
 fn first_or(args: &[Expr], none: Move) -> Move
     ensures { result ≡ first_or (map to_one args.now) none }
 {
     if args.len() == 0 { none } else { Move::Turn(0) }
 }
 
+// An object without arguments is made and constructed; else it is made first, and its arguments begin.
 fn making(class: u32, args: &[Expr]) -> Move
     ensures { result ≡ making class (map to_one args.now) }
 {
@@ -60,6 +62,7 @@ fn making(class: u32, args: &[Expr]) -> Move
     }
 }
 
+// An empty line is printed, or the operand begins.
 fn printing(alloc: Global, e: &Option<Boxed<Expr>>) -> Result<Move, NoMemory>
     ensures { IfOk result (λ m. m ≡ printing (option_map to_one e.now)) }
 {
@@ -81,7 +84,8 @@ fn super_alone(alloc: Global, this: &Value, after: u32, name: &Name) -> Result<M
     }))
 }
 
-fn begin_expr(alloc: Global, c: &Context<'_>, e: &Expr) -> Result<Move, NoMemory>
+// An expression by its form.
+pub(crate) fn begin_expr(alloc: Global, c: &Context<'_>, e: &Expr) -> Result<Move, NoMemory>
     ensures { IfOk result (λ m. m ≡ begun (sight c.now) (shape (ExprTree e.now))) }
 {
     match e {
@@ -119,7 +123,8 @@ fn begin_expr(alloc: Global, c: &Context<'_>, e: &Expr) -> Result<Move, NoMemory
     }
 }
 
-fn begin_constructor(this: &Value) -> Move
+// An object definition's constructor makes its object; any other begins its first stage.
+pub(crate) fn begin_constructor(this: &Value) -> Move
     ensures { result ≡ constructor_begun this.now }
 {
     match this {
@@ -138,6 +143,7 @@ pub(crate) fn child_number(levels: &Stack<Level<'_>>) -> u32
     }
 }
 
+// A class parameter is stored into its field.
 fn begin_parameter(alloc: Global, c: &Context<'_>, field: u32) -> Result<Move, NoMemory>
     ensures { IfOk result (λ m. m ≡ stage_begun (sight c.now) (stage.Parameter field)) }
 {
@@ -152,6 +158,7 @@ fn begin_parameter(alloc: Global, c: &Context<'_>, field: u32) -> Result<Move, N
     }
 }
 
+// The superclass constructor is called with the operands.
 fn begin_superclass(alloc: Global, c: &Context<'_>) -> Result<Move, NoMemory>
     ensures { IfOk result (λ m. m ≡ stage_begun (sight c.now) stage.Superclass) }
 {
@@ -175,6 +182,7 @@ fn all_operands(alloc: Global, operands: &Stack<Value>) -> Result<Args, NoMemory
     Ok(made)
 }
 
+// The statements of a trait are run on the object.
 fn begin_mixin(alloc: Global, c: &Context<'_>, mixin: u32) -> Result<Move, NoMemory>
     ensures { IfOk result (λ m. m ≡ stage_begun (sight c.now) (stage.Mixin mixin)) }
 {
@@ -183,7 +191,8 @@ fn begin_mixin(alloc: Global, c: &Context<'_>, mixin: u32) -> Result<Move, NoMem
     Ok(Move::Do(Act::Construct { class: mixin, args }))
 }
 
-fn begin_stage(alloc: Global, c: &Context<'_>, stage: Stage) -> Result<Move, NoMemory>
+// A stage of a constructor by its form.
+pub(crate) fn begin_stage(alloc: Global, c: &Context<'_>, stage: Stage) -> Result<Move, NoMemory>
     ensures { IfOk result (λ m. m ≡ stage_begun (sight c.now) stage) }
 {
     match stage {
@@ -193,7 +202,8 @@ fn begin_stage(alloc: Global, c: &Context<'_>, stage: Stage) -> Result<Move, NoM
     }
 }
 
-fn begin_case(alloc: Global, operands: &Stack<Value>) -> Result<Move, NoMemory>
+// A case: its pattern looks at the same value.
+pub(crate) fn begin_case(alloc: Global, operands: &Stack<Value>) -> Result<Move, NoMemory>
     ensures { IfOk result (λ m. m ≡ case_begun operands.now) }
 {
     match operands.top() {
@@ -202,18 +212,5 @@ fn begin_case(alloc: Global, operands: &Stack<Value>) -> Result<Move, NoMemory>
             value: v.copy(alloc)?,
         }),
         None => Ok(Move::Stuck),
-    }
-}
-
-/// The move of the node at which a context stands, as it begins.
-pub fn begin(alloc: Global, c: &Context<'_>) -> Result<Move, NoMemory>
-    ensures { IfOk result (λ m. m ≡ begun (sight c.now) (shape c.now.node)) }
-{
-    match c.node.node() {
-        Node::Expr(e) => begin_expr(alloc, c, e),
-        Node::Case(_) => begin_case(alloc, &c.operands),
-        Node::Pattern(p) => begin_pattern(alloc, &c.operands, p),
-        Node::Constructor(_) => Ok(begin_constructor(&c.this)),
-        Node::Stage(stage) => begin_stage(alloc, c, stage),
     }
 }

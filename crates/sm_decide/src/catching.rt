@@ -17,6 +17,7 @@ use sqlite_items::Boxed;
 use std::alloc::Global;
 use ty_prog::{Catch, Expr, Node};
 
+// MatchError for the value of a match.
 fn unmatched(alloc: Global, own: usize, operands: &Stack<Value>) -> Result<Move, NoMemory>
     ensures { IfOk result (λ m. m ≡ unmatched (take own operands.now)) }
 {
@@ -29,6 +30,7 @@ fn unmatched(alloc: Global, own: usize, operands: &Stack<Value>) -> Result<Move,
     }
 }
 
+// The exception that a handler kept goes on.
 fn rethrown(alloc: Global, own: usize, operands: &Stack<Value>) -> Result<Move, NoMemory>
     ensures { IfOk result (λ m. m ≡ rethrown (take own operands.now)) }
 {
@@ -41,6 +43,7 @@ fn rethrown(alloc: Global, own: usize, operands: &Stack<Value>) -> Result<Move, 
     }
 }
 
+// An expression one of whose cases doesn't match: the next one is tried, or none is left.
 fn pass_expr(
     alloc: Global,
     child: u32,
@@ -73,7 +76,8 @@ fn pass_expr(
     }
 }
 
-/// The move of a node whose case with this number doesn't match; the first operands are its own.
+/// The move of a node whose case with this number doesn't match (SLS 6.20, 8.4); the first operands are its own. Errors:
+/// want of memory, also for a number past `u32`.
 pub fn pass(
     alloc: Global,
     child: u32,
@@ -88,6 +92,7 @@ pub fn pass(
     }
 }
 
+// What a handler does with an exception out of the body.
 fn handled(
     alloc: Global,
     child: u32,
@@ -119,6 +124,7 @@ fn handled(
     }
 }
 
+// The `finally` that begins with an exception.
 fn finished(
     alloc: Global,
     child: u32,
@@ -142,7 +148,13 @@ fn finished(
     }))
 }
 
-fn catch_expr(alloc: Global, child: u32, x: &Value, e: &Expr) -> Result<Option<Move>, NoMemory>
+// An expression out of whose child an exception comes.
+pub(crate) fn catch_expr(
+    alloc: Global,
+    child: u32,
+    x: &Value,
+    e: &Expr,
+) -> Result<Option<Move>, NoMemory>
     ensures { IfOk result (λ m. m ≡ caught child x.now (shape (ExprTree e.now))) }
 {
     match e {
@@ -154,16 +166,6 @@ fn catch_expr(alloc: Global, child: u32, x: &Value, e: &Expr) -> Result<Option<M
             Some(m) => Ok(Some(m)),
             None => finished(alloc, child, x, handler, last),
         },
-        _ => Ok(None),
-    }
-}
-
-/// The move of a node out of whose child with this number an exception comes; None where it lets it go on.
-pub fn catch(alloc: Global, child: u32, x: &Value, node: Node<'_>) -> Result<Option<Move>, NoMemory>
-    ensures { IfOk result (λ m. m ≡ caught child x.now (shape (tree_of node.entry))) }
-{
-    match node {
-        Node::Expr(e) => catch_expr(alloc, child, x, e),
         _ => Ok(None),
     }
 }

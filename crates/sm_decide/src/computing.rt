@@ -31,6 +31,7 @@ pub(crate) fn null_pointer() -> Move
     }
 }
 
+// The move of a division by zero.
 fn by_zero(alloc: Global) -> Result<Move, NoMemory>
     ensures { IfOk result (λ m. m ≡ divided (pos 0) value.Unit) }
 {
@@ -40,6 +41,7 @@ fn by_zero(alloc: Global) -> Result<Move, NoMemory>
     })
 }
 
+// A quotient of Ints.
 fn int_divided(alloc: Global, a: i32, b: i32) -> Result<Move, NoMemory>
     ensures { IfOk result (λ m. m ≡ int_computed operator.Div a b) }
 {
@@ -49,6 +51,7 @@ fn int_divided(alloc: Global, a: i32, b: i32) -> Result<Move, NoMemory>
     }
 }
 
+// A remainder of Ints.
 fn int_left(alloc: Global, a: i32, b: i32) -> Result<Move, NoMemory>
     ensures { IfOk result (λ m. m ≡ int_computed operator.Rem a b) }
 {
@@ -81,6 +84,7 @@ fn int_computed(alloc: Global, op: PrimOp, a: i32, b: i32) -> Result<Move, NoMem
     }
 }
 
+// A quotient of Longs.
 fn long_divided(alloc: Global, a: i64, b: i64) -> Result<Move, NoMemory>
     ensures { IfOk result (λ m. m ≡ long_computed operator.Div a b) }
 {
@@ -90,6 +94,7 @@ fn long_divided(alloc: Global, a: i64, b: i64) -> Result<Move, NoMemory>
     }
 }
 
+// A remainder of Longs.
 fn long_left(alloc: Global, a: i64, b: i64) -> Result<Move, NoMemory>
     ensures { IfOk result (λ m. m ≡ long_computed operator.Rem a b) }
 {
@@ -141,6 +146,7 @@ fn bool_computed(op: PrimOp, a: bool, b: bool) -> Move
     }
 }
 
+// Two texts joined, of at most 1,000,000 UTF-16 units.
 fn joined(alloc: Global, a: &Name, b: &Name) -> Result<Move, NoMemory>
     ensures { IfOk result (λ m. m ≡ joined a.now b.now) }
 {
@@ -160,6 +166,7 @@ fn joined(alloc: Global, a: &Name, b: &Name) -> Result<Move, NoMemory>
     }
 }
 
+// Two values joined as texts; null is none.
 fn concatenated(alloc: Global, a: &Value, b: &Value) -> Result<Move, NoMemory>
     ensures { IfOk result (λ m. m ≡ concatenated a.now b.now) }
 {
@@ -171,6 +178,7 @@ fn concatenated(alloc: Global, a: &Value, b: &Value) -> Result<Move, NoMemory>
     }
 }
 
+// `equals` is called.
 fn call_equals(alloc: Global, a: &Value, b: &Value) -> Result<Move, NoMemory>
     ensures { IfOk result (λ m. m ≡ two_computed operator.Equals a.now b.now) }
 {
@@ -180,6 +188,7 @@ fn call_equals(alloc: Global, a: &Value, b: &Value) -> Result<Move, NoMemory>
     }))
 }
 
+// An operator on two values of the types that it takes.
 fn values_computed(alloc: Global, op: PrimOp, a: &Value, b: &Value) -> Result<Move, NoMemory>
     ensures { IfOk result (λ m. m ≡ values_computed op a.now b.now) }
 {
@@ -192,6 +201,7 @@ fn values_computed(alloc: Global, op: PrimOp, a: &Value, b: &Value) -> Result<Mo
     }
 }
 
+// An operator on two operands.
 fn two_computed(alloc: Global, op: PrimOp, a: &Value, b: &Value) -> Result<Move, NoMemory>
     ensures { IfOk result (λ m. m ≡ two_computed op a.now b.now) }
 {
@@ -203,6 +213,7 @@ fn two_computed(alloc: Global, op: PrimOp, a: &Value, b: &Value) -> Result<Move,
     }
 }
 
+// An operator on one operand.
 fn one_computed(alloc: Global, op: PrimOp, a: &Value) -> Result<Move, NoMemory>
     ensures { IfOk result (λ m. m ≡ one_computed op a.now) }
 {

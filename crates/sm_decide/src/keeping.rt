@@ -20,6 +20,7 @@ pub(crate) fn handler_len(handler: &Option<Catch>) -> usize
     }
 }
 
+// The exception, where a handler has cases.
 fn handler_kept(handler: &Option<Catch>) -> usize
     ensures { result ≡ handler_kept (option_map handler_form handler.now) }
 {
@@ -29,6 +30,7 @@ fn handler_kept(handler: &Option<Catch>) -> usize
     }
 }
 
+// How many values a `try` keeps for its child.
 fn try_kept(handler: &Option<Catch>, child: usize) -> usize
     ensures { result ≡ try_kept (option_map handler_form handler.now) child }
 {
@@ -41,6 +43,7 @@ fn try_kept(handler: &Option<Catch>, child: usize) -> usize
     }
 }
 
+// How many operands an expression keeps for its child.
 fn expr_kept(e: &Expr, child: usize) -> usize
     requires { child < 2 ^ 32 }
     ensures { result ≡ kept (shape (ExprTree e.now)) child }
@@ -81,6 +84,7 @@ pub(crate) fn is_super_arg(class: &Class, child: usize) -> bool
     }
 }
 
+// How many arguments of the superclass constructor are kept.
 fn super_kept(class: &Class, child: usize) -> usize
     ensures { result ≡ super_kept class.now class.now.kind child }
 {
@@ -109,6 +113,7 @@ pub fn kept(node: Node<'_>, child: u32) -> usize
     }
 }
 
+// How many operands a pattern keeps for its child.
 fn pattern_kept(p: &Pattern) -> usize
     ensures { result ≡ pattern_kept (pattern_form (out-Pattern p.now)) }
 {

@@ -43,7 +43,7 @@ pub(crate) fn arguments(
     Ok(made)
 }
 
-/// The number of the next child, where there is room for it.
+/// The number of the next child. Errors: want of memory, where there is no room for it.
 pub fn next(child: u32) -> Result<u32, NoMemory>
     ensures { IfOk result (λ n. n ≡ child + 1) }
 {

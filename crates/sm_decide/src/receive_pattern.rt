@@ -14,6 +14,7 @@ use sm_state::{Stack, Value};
 use std::alloc::Global;
 use ty_prog::Pattern;
 
+// A variable of a pattern gets the value, where the pattern behind it matches.
 fn bind(alloc: Global, local: u32, v: &Value, operands: &Stack<Value>) -> Result<Move, NoMemory>
     ensures { IfOk result (λ m. m ≡ bound local v.now (take 1 operands.now)) }
 {
@@ -28,6 +29,7 @@ fn bind(alloc: Global, local: u32, v: &Value, operands: &Stack<Value>) -> Result
     }
 }
 
+// The literal or the object is compared with the value.
 fn meet(alloc: Global, v: &Value, operands: &Stack<Value>) -> Result<Move, NoMemory>
     ensures { IfOk result (λ m. m ≡ met v.now (take 1 operands.now)) }
 {
@@ -64,6 +66,7 @@ fn next_part(
     }
 }
 
+// The next part of a pattern of a case class begins, or the pattern matches.
 fn make(
     alloc: Global,
     class: u32,
@@ -92,6 +95,7 @@ fn other(count: usize, child: u32) -> Result<Move, NoMemory>
     }
 }
 
+// The next alternative begins, or it is decided whether one matches.
 fn either(count: usize, child: u32, v: &Value) -> Result<Move, NoMemory>
     ensures { IfOk result (λ m. m ≡ branched v.now (move.End (value.Bool true)) (next_or count child (move.Turn (child + 1)) (move.End (value.Bool false)))) }
 {

@@ -1,7 +1,6 @@
-//! The move of a node that gets the value of a child.
+//! The moves of nodes that get the values of their children, by their forms.
 
 ghost use Rattle.std.specs.Prelude.{◌≡◌, ◌+◌, ◌<◌, suc, take, map, length, IfOk, Some, None, option_map};
-ghost use Rattle.ty_prog.specs.Node.{tree_of};
 ghost use Rattle.ty_prog.specs.Shape.{shape, handler_form, to_one};
 ghost use Rattle.ty_prog.specs.Tree.{ExprTree};
 ghost use Rattle.sm_rule.specs.Values.{computed};
@@ -15,14 +14,13 @@ ghost use Rattle.sm_state.specs.declared.value.Value.TheVariants as value;
 use crate::computing::{compute, null_pointer};
 use crate::keeping::{before_super, handler_len, is_super_arg};
 use crate::operands::{arguments, has_next, keep, next};
-use crate::receive_pattern::receive_pattern;
 use crate::texts::plain;
 use sl_base::{Name, NoMemory};
 use sm_rule::{Act, Move};
 use sm_state::{Stack, Value};
 use sqlite_items::{Boxed, Items};
 use std::alloc::Global;
-use ty_prog::{Case, Catch, Class, Expr, Kind, Node, PrimOp, Tested, Ty};
+use ty_prog::{Case, Catch, Class, Expr, Kind, PrimOp, Tested, Ty};
 
 // How many expressions there are.
 fn count(args: &Items<Expr>) -> usize
@@ -31,6 +29,7 @@ fn count(args: &Items<Expr>) -> usize
     args.len()
 }
 
+// A conditional: the condition, then a branch.
 fn receive_if(alloc: Global, child: u32, v: &Value) -> Result<Move, NoMemory>
     ensures { IfOk result (λ m. m ≡ if_received child v.now) }
 {
@@ -44,6 +43,7 @@ fn receive_if(alloc: Global, child: u32, v: &Value) -> Result<Move, NoMemory>
     }
 }
 
+// A loop: the condition, then the body, and again.
 fn receive_while(child: u32, v: &Value) -> Result<Move, NoMemory>
     ensures { IfOk result (λ m. m ≡ while_received child v.now) }
 {
@@ -57,6 +57,7 @@ fn receive_while(child: u32, v: &Value) -> Result<Move, NoMemory>
     }
 }
 
+// A block: the next statement, or the value of the last one.
 fn receive_block(alloc: Global, es: &Items<Expr>, child: u32, v: &Value) -> Result<Move, NoMemory>
     ensures { IfOk result (λ m. m ≡ next_or (length (map to_one es.now)) child (move.Turn (child + 1)) (move.End v.now)) }
 {
@@ -67,6 +68,7 @@ fn receive_block(alloc: Global, es: &Items<Expr>, child: u32, v: &Value) -> Resu
     }
 }
 
+// A write of a field: the object, then the value.
 fn receive_put(
     alloc: Global,
     class: u32,
@@ -91,6 +93,7 @@ fn receive_put(
     }
 }
 
+// `==`: one side, then the other.
 fn receive_equal(
     alloc: Global,
     child: u32,
@@ -137,6 +140,7 @@ fn receive_cas(
     }
 }
 
+// A call: the object, then each argument.
 fn receive_call(
     alloc: Global,
     class: u32,
@@ -158,6 +162,7 @@ fn receive_call(
     }))
 }
 
+// A new object: each argument of its constructor.
 fn receive_new(
     alloc: Global,
     class: u32,
@@ -177,6 +182,7 @@ fn receive_new(
     }))
 }
 
+// A call by `super`: each argument.
 fn receive_super(
     alloc: Global,
     this: &Value,
@@ -200,6 +206,7 @@ fn receive_super(
     }))
 }
 
+// A call of a static method, or of this very one: each argument.
 fn receive_static(
     alloc: Global,
     class: u32,
@@ -250,6 +257,7 @@ fn compute_many(
     }
 }
 
+// An operator on all its operands.
 fn compute_all(
     alloc: Global,
     op: PrimOp,
@@ -266,6 +274,7 @@ fn compute_all(
     }
 }
 
+// An operator: each operand.
 fn receive_prim(
     alloc: Global,
     op: PrimOp,
@@ -293,6 +302,7 @@ fn shown_text(alloc: Global, v: &Value) -> Result<Option<Name>, NoMemory>
     }
 }
 
+// The text of a value is asked for.
 fn ask_text(alloc: Global, v: &Value) -> Result<Move, NoMemory>
     ensures { IfOk result (λ m. m ≡ move.Again None 1 (act.TextOf v.now)) }
 {
@@ -303,6 +313,7 @@ fn ask_text(alloc: Global, v: &Value) -> Result<Move, NoMemory>
     })
 }
 
+// The text of a value: the value, then its text.
 fn receive_text(alloc: Global, child: u32, v: &Value) -> Result<Move, NoMemory>
     ensures { IfOk result (λ m. m ≡ text_received child (λ t. move.End (value.Text t)) v.now) }
 {
@@ -315,6 +326,7 @@ fn receive_text(alloc: Global, child: u32, v: &Value) -> Result<Move, NoMemory>
     }
 }
 
+// A line: the value, then its text.
 fn receive_println(alloc: Global, child: u32, v: &Value) -> Result<Move, NoMemory>
     ensures { IfOk result (λ m. m ≡ text_received child (λ t. move.Do (act.Print t)) v.now) }
 {
@@ -327,6 +339,7 @@ fn receive_println(alloc: Global, child: u32, v: &Value) -> Result<Move, NoMemor
     }
 }
 
+// A `throw`.
 fn receive_throw(v: &Value) -> Result<Move, NoMemory>
     ensures { IfOk result (λ m. m ≡ thrown v.now) }
 {
@@ -337,6 +350,7 @@ fn receive_throw(v: &Value) -> Result<Move, NoMemory>
     }
 }
 
+// Behind a `finally` the exception goes on, or the value is given.
 fn unshelve(alloc: Global, operands: &Stack<Value>) -> Result<Move, NoMemory>
     ensures { IfOk result (λ m. m ≡ unshelved (take 2 operands.now)) }
 {
@@ -359,6 +373,7 @@ pub(crate) fn last_at(handler: &Option<Catch>) -> Result<u32, NoMemory>
     }
 }
 
+// A `try`: its body or a handler is done, or its `finally`.
 fn receive_try(
     alloc: Global,
     child: u32,
@@ -384,6 +399,7 @@ fn receive_try(
     })
 }
 
+// A match: the value, then the body of a case.
 fn receive_match(
     alloc: Global,
     child: u32,
@@ -401,6 +417,7 @@ fn receive_match(
     keep(alloc, 0, v)
 }
 
+// A read of a lazy member.
 fn lazy_get(alloc: Global, class: u32, cell: u32, v: &Value) -> Result<Move, NoMemory>
     ensures { IfOk result (λ m. m ≡ move.Do (act.ReadCell v.now class cell)) }
 {
@@ -411,6 +428,7 @@ fn lazy_get(alloc: Global, class: u32, cell: u32, v: &Value) -> Result<Move, NoM
     }))
 }
 
+// A read of a field.
 fn get(alloc: Global, class: u32, field: u32, v: &Value) -> Result<Move, NoMemory>
     ensures { IfOk result (λ m. m ≡ move.Do (act.Read v.now class field)) }
 {
@@ -421,6 +439,7 @@ fn get(alloc: Global, class: u32, field: u32, v: &Value) -> Result<Move, NoMemor
     }))
 }
 
+// A local gets a value.
 fn store(alloc: Global, local: u32, v: &Value) -> Result<Move, NoMemory>
     ensures { IfOk result (λ m. m ≡ move.Store local v.now value.Unit) }
 {
@@ -431,6 +450,7 @@ fn store(alloc: Global, local: u32, v: &Value) -> Result<Move, NoMemory>
     })
 }
 
+// A conversion.
 fn convert(alloc: Global, to: Ty, v: &Value) -> Result<Move, NoMemory>
     ensures { IfOk result (λ m. m ≡ move.Do (act.Convert to v.now)) }
 {
@@ -440,12 +460,14 @@ fn convert(alloc: Global, to: Ty, v: &Value) -> Result<Move, NoMemory>
     }))
 }
 
+// A thread is started.
 fn start(alloc: Global, v: &Value) -> Result<Move, NoMemory>
     ensures { IfOk result (λ m. m ≡ move.Do (act.Start v.now)) }
 {
     Ok(Move::Do(Act::Start(v.copy(alloc)?)))
 }
 
+// A test.
 fn test_value(alloc: Global, v: &Value, test: Tested) -> Result<Move, NoMemory>
     ensures { IfOk result (λ m. m ≡ move.Do (act.Test v.now test)) }
 {
@@ -455,30 +477,35 @@ fn test_value(alloc: Global, v: &Value, test: Tested) -> Result<Move, NoMemory>
     }))
 }
 
+// A new latch.
 fn make_latch(alloc: Global, v: &Value) -> Result<Move, NoMemory>
     ensures { IfOk result (λ m. m ≡ move.Do (act.MakeLatch v.now)) }
 {
     Ok(Move::Do(Act::MakeLatch(v.copy(alloc)?)))
 }
 
+// Whether this thread owns a control value.
 fn is_mine(alloc: Global, v: &Value) -> Result<Move, NoMemory>
     ensures { IfOk result (λ m. m ≡ move.Do (act.IsMine v.now)) }
 {
     Ok(Move::Do(Act::IsMine(v.copy(alloc)?)))
 }
 
+// A latch is awaited.
 fn await_latch(alloc: Global, v: &Value) -> Result<Move, NoMemory>
     ensures { IfOk result (λ m. m ≡ move.Do (act.Await v.now)) }
 {
     Ok(Move::Do(Act::Await(v.copy(alloc)?)))
 }
 
+// A latch is opened.
 fn count_down(alloc: Global, v: &Value) -> Result<Move, NoMemory>
     ensures { IfOk result (λ m. m ≡ move.Do (act.CountDown v.now)) }
 {
     Ok(Move::Do(Act::CountDown(v.copy(alloc)?)))
 }
 
+// The reference of an object definition is set.
 fn set_module(alloc: Global, class: u32, v: &Value) -> Result<Move, NoMemory>
     ensures { IfOk result (λ m. m ≡ move.Do (act.SetModule class v.now)) }
 {
@@ -500,7 +527,7 @@ fn new_kept(class: u32, args: &Items<Expr>, child: u32) -> usize
 }
 
 /// The move of an expression that gets the value of a child.
-fn receive_expr(
+pub(crate) fn receive_expr(
     alloc: Global,
     this: &Value,
     child: u32,
@@ -572,7 +599,12 @@ fn receive_expr(
 }
 
 // A case: its pattern, its guard where it has one, its body.
-fn receive_case(alloc: Global, child: u32, v: &Value, guarded: bool) -> Result<Move, NoMemory>
+pub(crate) fn receive_case(
+    alloc: Global,
+    child: u32,
+    v: &Value,
+    guarded: bool,
+) -> Result<Move, NoMemory>
     ensures { IfOk result (λ m. m ≡ case_received child v.now (one_if guarded)) }
 {
     let tests = child == 0 || (child == 1 && guarded);
@@ -586,6 +618,7 @@ fn receive_case(alloc: Global, child: u32, v: &Value, guarded: bool) -> Result<M
     }
 }
 
+// Whether a body doesn't begin by setting the object's reference.
 fn sets_none(body: &[Expr]) -> bool
     ensures { result ≡ sets_none body.now }
 {
@@ -595,6 +628,7 @@ fn sets_none(body: &[Expr]) -> bool
     }
 }
 
+// Whether the object's reference is set when this stage is done.
 fn publishes(class: &Class, child: usize) -> bool
     ensures { result ≡ publishes class.now class.now.kind child }
 {
@@ -604,7 +638,13 @@ fn publishes(class: &Class, child: usize) -> bool
     }
 }
 
-fn receive_stage(alloc: Global, class: &Class, child: u32, v: &Value) -> Result<Move, NoMemory>
+// A constructor: the next stage begins, or an argument is kept, or the reference is set.
+pub(crate) fn receive_stage(
+    alloc: Global,
+    class: &Class,
+    child: u32,
+    v: &Value,
+) -> Result<Move, NoMemory>
     ensures { IfOk result (λ m. m ≡ constructor_received child v.now class.now) }
 {
     if is_super_arg(class, child as usize) {
@@ -615,25 +655,5 @@ fn receive_stage(alloc: Global, class: &Class, child: u32, v: &Value) -> Result<
         Ok(Move::Publish(behind))
     } else {
         Ok(Move::Advance(behind))
-    }
-}
-
-/// The move of a node that gets the value of its child with this number; the first operands are its own.
-pub fn receive(
-    alloc: Global,
-    this: &Value,
-    child: u32,
-    v: &Value,
-    operands: &Stack<Value>,
-    node: Node<'_>,
-) -> Result<Move, NoMemory>
-    ensures { IfOk result (λ m. m ≡ received this.now child v.now (take (kept (shape (tree_of node.entry)) child) operands.now) (shape (tree_of node.entry))) }
-{
-    match node {
-        Node::Expr(e) => receive_expr(alloc, this, child, v, operands, e),
-        Node::Case(c) => receive_case(alloc, child, v, c.guard.is_some()),
-        Node::Pattern(p) => receive_pattern(alloc, child, v, operands, p),
-        Node::Constructor(class) => receive_stage(alloc, class, child, v),
-        Node::Stage(_) => Ok(Move::Stuck),
     }
 }

@@ -9,7 +9,7 @@ ghost use Rattle.sm_rule.specs.Values.{is_empty, units};
 use sl_base::{Name, NoMemory};
 use std::alloc::{AllocError, Global};
 
-/// The text with these characters, which are its bytes.
+/// The text with these characters, which are its bytes. Errors: want of memory.
 pub fn plain(alloc: Global, text: &str) -> Result<Name, AllocError>
     requires { IsTrue (list_all is_ascii text.now) }
     ensures { IfOk result (λ name. name ≡ text.now) }
@@ -31,6 +31,7 @@ fn width(c: char) -> u64
     if (c as u32) < 65536 { 1 } else { 2 }
 }
 
+// A sum, where there is room for it.
 fn add(count: u64, more: u64) -> Result<u64, NoMemory>
     ensures { IfOk result (λ n. n ≡ count + more) }
 {
@@ -40,6 +41,7 @@ fn add(count: u64, more: u64) -> Result<u64, NoMemory>
     }
 }
 
+// How many UTF-16 units a text has.
 #[tactic(auto, using(crate::proofs::Listed::units_push))]
 fn units_of(text: &str) -> Result<u64, NoMemory>
     ensures { IfOk result (λ n. n ≡ units (chars text.now)) }

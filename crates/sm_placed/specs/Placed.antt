@@ -25,18 +25,20 @@ abbrev pub place_of : List Level → List ℕ
 place_of [] = []
 place_of (l ∷ levels) = place_of levels ++ l.child ∷ []
 
--- whether a node of this form gets what an act gives as from a child of this number: the text of a value, an object that it
--- has made, the object that it compares with
+-- whether an expression gets what an act gives as from a child of this number: the text of a value, or the object
+-- that it has made
 abbrev pub expr_awaits : ExprForm → ℕ → Bool
 expr_awaits (Expr-F.TextOf e) i = nat_eq i 1
 expr_awaits (Expr-F.Println e) i = nat_eq i 1
 expr_awaits (Expr-F.New class []) i = nat_eq i 0
 expr_awaits other i = false
 
+-- the same of a pattern: the object that it compares with
 abbrev pub pattern_awaits : PatternForm → ℕ → Bool
 pattern_awaits (Pattern-F.Object class) i = nat_eq i 0
 pattern_awaits other i = false
 
+-- the same of a node of any form
 abbrev pub awaits : Shape → ℕ → Bool
 awaits (ExprShape e) i = expr_awaits e i
 awaits (CaseShape c) i = false
@@ -67,6 +69,7 @@ pub record PlacedIn (Stands : Tree → Tree → List Level → Type 0) (p : Prog
 abbrev pub AtNode : Program → Context → Type 0
 AtNode = PlacedIn StandsBelow
 
+-- the node stands below the root, or is one that awaits what an act gives
 abbrev pub StandsOrAwaits : Tree → Tree → List Level → Type 0
 StandsOrAwaits root node levels = StandsBelow root node levels ⊎ AwaitsBelow root node levels
 
@@ -81,9 +84,11 @@ ContextsPlaced p (c ∷ cs) value (Some x) = Placed p c × AllByRecursion (Place
 ContextsPlaced p (c ∷ cs) None None = AtNode p c × AllByRecursion (Placed p) cs
 ContextsPlaced p (c ∷ cs) (Some v) None = Placed p c × AllByRecursion (Placed p) cs
 
+-- the same of a thread
 abbrev pub ThreadPlaced : Program → Thread → Type 0
 ThreadPlaced p th = ContextsPlaced p th.contexts th.value th.thrown
 
+-- the same of the thread that a move begins, if it begins one
 abbrev pub BegunPlaced : Program → Option Thread → Type 0
 BegunPlaced p None = Unit {0}
 BegunPlaced p (Some th) = ThreadPlaced p th

@@ -7,12 +7,15 @@ use Rattle.sm_state.specs.declared.heap.Heap.{Heap}
 use Rattle.sm_rule.specs.declared.answer.Edit.{Edit}
 use Rattle.sm_rule.specs.declared.answer.Edit.TheVariants as edit
 
+-- an object with another value in the field with a number
 abbrev pub with_field : ℕ → Value → Object → Object
 with_field at v o = record o { fields = slice_set o.fields at v }
 
+-- an object with another state of the cell with a number
 abbrev pub with_cell : ℕ → Once → Object → Object
 with_cell at once o = record o { cells = slice_set o.cells at once }
 
+-- the objects with this one changed, if it is there
 abbrev pub changed_to : List Object → ℕ → (Object → Object) → Option Object → List Object
 changed_to objects r f None = objects
 changed_to objects r f (Some o) = slice_set objects r (f o)
@@ -21,6 +24,7 @@ changed_to objects r f (Some o) = slice_set objects r (f o)
 abbrev pub changed : List Object → ℕ → (Object → Object) → List Object
 changed objects r f = changed_to objects r f (slice_get objects r)
 
+-- the heap after a change
 abbrev pub edited : Edit → Heap → Heap
 edited edit.Nothing h = h
 edited (edit.Field r at v) h = record h { objects = changed h.objects r (with_field at v) }

@@ -1,6 +1,7 @@
-pub mod Edits
-pub mod Machine
+-- What a reader must believe, in this order.
+pub mod Values
 pub mod Moves
+pub mod Edits
 pub mod Perform
 pub mod Step
-pub mod Values
+pub mod Machine

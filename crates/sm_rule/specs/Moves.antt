@@ -31,11 +31,12 @@ handler_len None = 0
 handler_len (Some (Catch-F.Cases cases)) = length cases
 handler_len (Some (Catch-F.«Catch::Any» local body)) = 1
 
--- the cases of a handler keep the exception, and a `finally` keeps two values
+-- how many values the cases of a handler keep: the exception
 abbrev pub handler_kept : Option CatchForm → ℕ
 handler_kept (Some (Catch-F.Cases cases)) = 1
 handler_kept other = 0
 
+-- how many values a `try` keeps for its child: its `finally` has two
 abbrev pub try_kept : Option CatchForm → ℕ → ℕ
 try_kept handler zero = 0
 try_kept handler (suc i) = if nat_lt i (handler_len handler) then handler_kept handler else 2
@@ -50,6 +51,7 @@ abbrev pub super_kept : Class → Kind → ℕ → ℕ
 super_kept class kind.Trait i = 0
 super_kept class other i = if nat_le i (length class.params + length class.super_args) then i - length class.params else 0
 
+-- how many operands an expression keeps for its child
 abbrev pub expr_kept : ExprForm → ℕ → ℕ
 expr_kept (Expr-F.Put of class field value) i = i
 expr_kept (Expr-F.Call of class method args) i = i
@@ -65,6 +67,7 @@ expr_kept (Expr-F.Cas of class field old new) i = i
 expr_kept (Expr-F.StaticCall class method args) i = i
 expr_kept other i = 0
 
+-- how many operands a pattern keeps for its child: the value, and with `Make` the part of it
 abbrev pub pattern_kept : PatternForm → ℕ
 pattern_kept (Pattern-F.Make class parts) = 2
 pattern_kept other = 1
@@ -93,10 +96,12 @@ pub record Sight : Type 0 where
   pub child : ℕ
   pub operands : List Value
 
+-- the value of a local that is set
 abbrev pub set_local : Option (Option Value) → Move
 set_local (Some (Some v)) = move.End v
 set_local other = move.Stuck
 
+-- the first child begins, or where there is none, something else is done
 abbrev pub first_or : {A : Type 0} → List A → Move → Move
 first_or [] none = none
 first_or (x ∷ xs) none = move.Turn 0
@@ -112,10 +117,12 @@ abbrev pub making : {A : Type 0} → ℕ → List A → Move
 making class [] = move.Again None 0 (act.Make class)
 making class (a ∷ args) = move.Hold class
 
+-- `println` without an operand prints an empty line
 abbrev pub printing : {A : Type 0} → Option A → Move
 printing None = move.Do (act.Print [])
 printing (Some e) = move.Turn 0
 
+-- how an expression begins
 abbrev pub expr_begun : Sight → ExprForm → Move
 expr_begun s (Expr-F.Int n) = move.End (value.Int n)
 expr_begun s (Expr-F.Long n) = move.End (value.Long n)
@@ -135,15 +142,17 @@ expr_begun s (Expr-F.ObjectGet class) = move.Do (act.ReadModule class)
 expr_begun s (Expr-F.ModuleGet class) = move.Do (act.ReadModule class)
 expr_begun s other = move.Turn 0
 
--- a pattern looks at the value that the node above keeps for it (SLS 8.1)
+-- a pattern of a case class begins, by the value that it looks at
 abbrev pub making_begun : {A : Type 0} → Value → ℕ → List A → Move
 making_begun v class [] = move.Do (act.Test v (tested.OfType (ty.Class class)))
 making_begun v class (p ∷ parts) = move.Open class 0 v
 
+-- alternatives begin, by the value that they look at
 abbrev pub either_begun : {A : Type 0} → Value → List A → Move
 either_begun v [] = move.End (value.Bool false)
 either_begun v (p ∷ parts) = move.Keep 0 v
 
+-- a pattern begins, by the value that it looks at, which the node above keeps for it (SLS 8.1)
 abbrev pub looked : Value → PatternForm → Move
 looked v Pattern-F.«Pattern::Any» = move.End (value.Bool true)
 looked v (Pattern-F.Bind local p) = move.Keep 0 v
@@ -153,10 +162,12 @@ looked v (Pattern-F.Object class) = move.Again (Some v) 0 (act.ReadModule class)
 looked v (Pattern-F.Make class parts) = making_begun v class parts
 looked v (Pattern-F.Either parts) = either_begun v parts
 
+-- how a pattern begins
 abbrev pub pattern_begun : List Value → PatternForm → Move
 pattern_begun [] p = move.Stuck
 pattern_begun (v ∷ above) p = looked v p
 
+-- how a case begins: with its pattern, which looks at the same value
 abbrev pub case_begun : List Value → Move
 case_begun [] = move.Stuck
 case_begun (v ∷ above) = move.Keep 0 v
@@ -166,15 +177,18 @@ abbrev pub constructor_begun : Value → Move
 constructor_begun value.Null = move.Embody
 constructor_begun this = move.Advance 0
 
+-- a class parameter is stored into its field
 abbrev pub parameter_begun : Sight → ℕ → Option (Option Value) → Move
 parameter_begun s field (Some (Some v)) = move.Do (act.Write s.this s.class field v)
 parameter_begun s field other = move.Stuck
 
+-- how a stage of a constructor begins (SLS 5.1)
 abbrev pub stage_begun : Sight → Stage → Move
 stage_begun s (stage.Parameter field) = parameter_begun s field (slice_get s.locals s.child)
 stage_begun s stage.Superclass = move.Do (act.ConstructAbove s.class s.this (map Some (reverse s.operands)))
 stage_begun s (stage.Mixin trait) = move.Do (act.Construct trait (Some s.this ∷ []))
 
+-- what a node does when it begins
 abbrev pub begun : Sight → Shape → Move
 begun s (ExprShape e) = expr_begun s e
 begun s (CaseShape c) = case_begun s.operands
@@ -184,15 +198,18 @@ begun s (StageShape stage) = stage_begun s stage
 
 -- ---- a node gets the value of a child
 
+-- one of two moves, by a condition
 abbrev pub branched : Value → Move → Move → Move
 branched (value.Bool true) one two = one
 branched (value.Bool false) one two = two
 branched other one two = move.Stuck
 
+-- a conditional: the condition, then a branch (SLS 6.16)
 abbrev pub if_received : ℕ → Value → Move
 if_received zero v = branched v (move.Turn 1) (move.Turn 2)
 if_received (suc i) v = move.End v
 
+-- a loop: the condition, then the body, and again (SLS 6.17)
 abbrev pub while_received : ℕ → Value → Move
 while_received zero v = branched v (move.Turn 1) (move.End value.Unit)
 while_received (suc i) v = move.Turn 0
@@ -205,22 +222,27 @@ next_or count i next last = if nat_lt (i + 1) count then next else last
 abbrev pub all : Value → List Value → List Value
 all v operands = reverse (v ∷ operands)
 
+-- the same as the arguments of a call
 abbrev pub arguments : Value → List Value → List (Option Value)
 arguments v operands = map Some (all v operands)
 
+-- the next operand begins, or behind the last one something is done
 abbrev pub operand_or : ℕ → ℕ → Value → Move → Move
 operand_or count i v last = next_or count i (move.Keep (i + 1) v) last
 
+-- a write of a field: the object, then the value
 abbrev pub written : ℕ → ℕ → ℕ → Value → List Value → Move
 written class field zero v operands = move.Keep 1 v
 written class field (suc i) v (of ∷ above) = move.Do (act.Write of class field v)
 written class field (suc i) v [] = move.Stuck
 
+-- `==`: one side, then the other
 abbrev pub compared : ℕ → Value → List Value → Move
 compared zero b operands = move.Keep 1 b
 compared (suc i) b (a ∷ above) = move.Do (act.Compare a b)
 compared (suc i) b [] = move.Stuck
 
+-- an exchange of a field: the object, the old value, the new one
 abbrev pub exchanged : ℕ → ℕ → ℕ → Value → List Value → Move
 exchanged class field zero v operands = move.Keep 1 v
 exchanged class field (suc zero) v operands = move.Keep 2 v
@@ -233,10 +255,12 @@ shown use_text (value.Text t) = use_text t
 shown use_text value.Null = use_text (codes "null")
 shown use_text other = move.Stuck
 
+-- a value is made a text, and the text is used
 abbrev pub text_received : ℕ → (List ℕ → Move) → Value → Move
 text_received zero use_text v = move.Again None 1 (act.TextOf v)
 text_received (suc i) use_text v = shown use_text v
 
+-- `throw`: null throws NullPointerException (SLS 6.21)
 abbrev pub thrown : Value → Move
 thrown (value.Ref r) = move.Raise (value.Ref r)
 thrown value.Null = null_pointer
@@ -248,15 +272,18 @@ unshelved (x ∷ value.Bool true ∷ above) = move.Raise x
 unshelved (v ∷ value.Bool false ∷ above) = move.End v
 unshelved other = move.Stuck
 
+-- a `try`: its body or a handler is done, or its `finally` (SLS 6.20)
 abbrev pub try_received : ℕ → Value → List Value → ℕ → Option One → Move
 try_received i v operands at None = move.End v
 try_received i v operands at (Some last) = if i == at then unshelved operands else move.Shelve at false v
 
+-- a match: the value, then the body of a case (SLS 8.4)
 abbrev pub match_received : {A : Type 0} → ℕ → Value → List A → Move
 match_received zero v [] = move.Do (act.Unmatched v)
 match_received zero v (c ∷ cases) = move.Keep 1 v
 match_received (suc i) v cases = move.End v
 
+-- what an expression does with the value of its child
 abbrev pub expr_received : Value → ℕ → Value → List Value → ExprForm → Move
 expr_received this i v operands (Expr-F.SetLocal local e) = move.Store local v value.Unit
 expr_received this i v operands (Expr-F.Get of class field) = move.Do (act.Read v class field)
@@ -293,6 +320,7 @@ case_received zero v guard = branched v (move.Fresh 1) move.Pass
 case_received (suc zero) v (Some guard) = branched v (move.Fresh 2) move.Pass
 case_received (suc i) v guard = move.End v
 
+-- a variable of a pattern gets the value, where the pattern behind it matches (SLS 8.1.3)
 abbrev pub bound : ℕ → Value → List Value → Move
 bound local (value.Bool true) (v ∷ above) = move.Store local v (value.Bool true)
 bound local (value.Bool false) operands = move.End (value.Bool false)
@@ -303,10 +331,12 @@ abbrev pub met : Value → List Value → Move
 met a (v ∷ above) = move.Do (act.Compare a v)
 met a [] = move.Stuck
 
+-- the next part of a pattern of a case class, or the pattern matches (SLS 8.1.6)
 abbrev pub part_next : ℕ → ℕ → ℕ → List Value → Move
 part_next class count i (part ∷ of ∷ above) = next_or count i (move.Open class (i + 1) of) (move.End (value.Bool true))
 part_next class count i other = move.Stuck
 
+-- what a pattern does with the value of its child
 abbrev pub pattern_received : ℕ → Value → List Value → PatternForm → Move
 pattern_received i v operands (Pattern-F.Bind local p) = bound local v operands
 pattern_received i v operands (Pattern-F.Literal e) = met v operands
@@ -320,10 +350,12 @@ abbrev pub sets_none : List Expr → Bool
 sets_none [] = true
 sets_none (first ∷ rest) = not (sets_module first)
 
+-- whether an object definition's reference is set when this child of its constructor is done
 abbrev pub publishes : Class → Kind → ℕ → Bool
 publishes class kind.Object i = i == length class.params + length class.super_args && sets_none class.body
 publishes class other i = false
 
+-- what a constructor does when one of its stages is done
 abbrev pub constructor_received : ℕ → Value → Class → Move
 constructor_received i v class =
     if is_super_arg class class.kind i then move.Keep (i + 1) v
@@ -339,6 +371,7 @@ received this i v operands (StageShape stage) = move.Stuck
 
 -- ---- a case doesn't match
 
+-- a match of which no case matches (SLS 8.4)
 abbrev pub unmatched : List Value → Move
 unmatched (v ∷ above) = move.Do (act.Unmatched v)
 unmatched [] = move.Stuck
@@ -348,6 +381,7 @@ abbrev pub rethrown : List Value → Move
 rethrown (x ∷ above) = move.Raise x
 rethrown [] = move.Stuck
 
+-- what an expression does when a case of it doesn't match: the next case is tried
 abbrev pub expr_passed : ℕ → List Value → ExprForm → Move
 expr_passed i operands (Expr-F.Match of cases) = if nat_lt i (length cases) then move.Turn (i + 1) else unmatched operands
 expr_passed i operands (Expr-F.Try body handler last) = if nat_lt i (handler_len handler) then move.Turn (i + 1) else rethrown operands
@@ -371,6 +405,7 @@ abbrev pub finished : ℕ → Value → ℕ → Option One → Option Move
 finished i x at (Some last) = if nat_lt i at then Some (move.Shelve at true x) else None
 finished i x at None = None
 
+-- what an expression does with an exception out of its child, if it does anything
 abbrev pub expr_caught : ℕ → Value → ExprForm → Option Move
 expr_caught i x (Expr-F.Try body handler last) = option_or (handled i x handler) (finished i x (1 + handler_len handler) last)
 expr_caught i x other = None

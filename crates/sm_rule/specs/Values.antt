@@ -57,9 +57,11 @@ abbrev pub units : List ℕ → ℕ
 units [] = 0
 units (c ∷ cs) = (if nat_lt c 65536 then 1 else 2) + units cs
 
+-- a node gives a Boolean
 abbrev pub truth : Bool → Move
 truth b = move.End (value.Bool b)
 
+-- NullPointerException
 abbrev pub null_pointer : Move
 null_pointer = move.Fail 6 value.Null
 
@@ -67,7 +69,7 @@ null_pointer = move.Fail 6 value.Null
 abbrev pub divided : ℤ → Value → Move
 divided b v = if int_eq b (pos 0) then move.Fail 5 (value.Text (codes "/ by zero")) else move.End v
 
--- an operator on two Ints, on two Longs, on a Long and an Int, and on two Booleans (SLS 12.2)
+-- an operator on two Ints (SLS 12.2)
 abbrev pub int_computed : PrimOp → ℤ → ℤ → Move
 int_computed op.Add a b = move.End (value.Int (int num.Add a b))
 int_computed op.Sub a b = move.End (value.Int (int num.Sub a b))
@@ -86,6 +88,7 @@ int_computed op.Greater a b = truth (int_lt b a)
 int_computed op.AtLeast a b = truth (int_le b a)
 int_computed other a b = move.Stuck
 
+-- an operator on two Longs (SLS 12.2)
 abbrev pub long_computed : PrimOp → ℤ → ℤ → Move
 long_computed op.Add a b = move.End (value.Long (long num.Add a b))
 long_computed op.Sub a b = move.End (value.Long (long num.Sub a b))
@@ -101,12 +104,14 @@ long_computed op.Greater a b = truth (int_lt b a)
 long_computed op.AtLeast a b = truth (int_le b a)
 long_computed other a b = move.Stuck
 
+-- a Long shifted by an Int
 abbrev pub long_shifted : PrimOp → ℤ → ℤ → Move
 long_shifted op.Shl a b = move.End (value.Long (long num.Shl a b))
 long_shifted op.Shr a b = move.End (value.Long (long num.Shr a b))
 long_shifted op.Ushr a b = move.End (value.Long (long num.Ushr a b))
 long_shifted other a b = move.Stuck
 
+-- an operator on two Booleans
 abbrev pub bool_computed : PrimOp → Bool → Bool → Move
 bool_computed op.And a b = truth (a && b)
 bool_computed op.Or a b = truth (a || b)
@@ -117,12 +122,14 @@ bool_computed other a b = move.Stuck
 abbrev pub joined : List ℕ → List ℕ → Move
 joined a b = if nat_lt 1000000 (units a + units b) then move.Fail 17 value.Null else move.End (value.Text (a ++ b))
 
+-- texts joined; null is none
 abbrev pub concatenated : Value → Value → Move
 concatenated (value.Text a) (value.Text b) = joined a b
 concatenated value.Null b = null_pointer
 concatenated (value.Text a) value.Null = null_pointer
 concatenated _ _ = move.Stuck
 
+-- an operator on two values of the types that it takes
 abbrev pub values_computed : PrimOp → Value → Value → Move
 values_computed o (value.Int a) (value.Int b) = int_computed o a b
 values_computed o (value.Long a) (value.Long b) = long_computed o a b
@@ -137,6 +144,7 @@ two_computed op.Equals a b = move.Do (act.CallEquals a b)
 two_computed op.Concat a b = concatenated a b
 two_computed o a b = values_computed o a b
 
+-- a text without characters
 abbrev pub is_empty : List ℕ → Bool
 is_empty [] = true
 is_empty other = false

@@ -1,10 +1,10 @@
 -- The last items of a list are the first ones of the list reversed.
-use Rattle.std.proofs.Common.{◌≡◌, ℕ, zero, suc, ◌-◌, ◌<◌, ◌≤◌, List, [], ◌∷◌, ◌++◌, length, take, drop, reverse, get_or, refl, sym, ap, ◌∙◌, arith, length-drop, ⊎_elim}
+use Rattle.std.proofs.Common.{◌≡◌, ℕ, zero, suc, ◌+◌, ◌-◌, ◌<◌, ◌≤◌, List, [], ◌∷◌, ◌++◌, length, take, drop, reverse, get_or, refl, sym, ap, ◌∙◌, arith, length-drop, ⊎_elim}
 use Rattle.std.specs.Prelude.{slice_set, slice_get, Some, None}
-use Rattle.std.proofs.lemmas.List.{reverse-append, reverse-reverse, length-reverse, take-append-drop, drop_all}
+use Rattle.std.proofs.lemmas.List.{reverse-append, reverse-reverse, length-reverse, take-append-drop, take_all, drop-drop, drop_all}
 use Rattle.std.proofs.lemmas.Bool.{cases_lt}
 use Rattle.std.proofs.lemmas.Grind.{reverse_onto}
-use Rattle.std.proofs.Math.Seq.{set-append_seam, drop-append_seam, get_or-append_seam}
+use Rattle.std.proofs.Math.Seq.{set-append_seam, drop-append_seam, take-append_seam, get_or-append_seam}
 
 last_set : {A : Type 0} (r : List A) (w : A) → 0 < length r → reverse (slice_set (reverse r) (length r - 1) w) ≡ w ∷ drop 1 r
 last_set [] w some = absurd (omega arith)
@@ -81,3 +81,28 @@ none_at (x ∷ xs) (suc k) le = none_at xs k (omega arith)
 
 pub get_past : {A : Type 0} (xs : List A) (k : ℕ) → length xs ≤ k → slice_get (reverse xs) k ≡ None
 get_past xs k le = none_at (reverse xs) k (omega (arith, length-reverse xs))
+
+reverse-drop_split : {A : Type 0} (f b : List A) (n : ℕ) → length b ≡ n → reverse b ≡ take n (reverse (f ++ b))
+reverse-drop_split f b n is =
+    sym (ap (λ l. take n l) (reverse-append f b)
+    ∙ ap (λ k. take k (reverse b ++ reverse f)) (omega (arith, length-reverse b))
+    ∙ take-append_seam (reverse b) (reverse f))
+
+reverse-drop_front : {A : Type 0} (xs : List A) (n : ℕ) → n ≤ length xs → reverse (drop (length xs - n) xs) ≡ take n (reverse xs)
+reverse-drop_front xs n le =
+    reverse-drop_split (take (length xs - n) xs) (drop (length xs - n) xs) n (omega (arith, length-drop (length xs - n) xs))
+    ∙ ap (λ l. take n (reverse l)) (take-append-drop (length xs - n) xs)
+
+reverse-drop_back : {A : Type 0} (xs : List A) (n : ℕ) → reverse (drop (length xs - n) xs) ≡ take n (reverse xs)
+reverse-drop_back xs n = ⊎_elim
+    (λ lt. let none : length xs - n ≡ 0 = omega arith in ap (λ k. reverse (drop k xs)) none ∙ sym (take_all n (reverse xs) (omega (arith, length-reverse xs))))
+    (λ le. reverse-drop_front xs n le)
+    (cases_lt (length xs) n)
+
+pub reverse_cut : {A : Type 0} (xs : List A) (kept count : ℕ) → reverse (take (length xs - kept - count) xs ++ drop (length xs - kept) xs) ≡ take kept (reverse xs) ++ drop count (drop kept (reverse xs))
+reverse_cut xs kept count =
+    let joined : length xs - kept - count ≡ length xs - (kept + count) = omega arith in
+    reverse-append (take (length xs - kept - count) xs) (drop (length xs - kept) xs)
+    ∙ ap (λ l. l ++ reverse (take (length xs - kept - count) xs)) (reverse-drop_back xs kept)
+    ∙ ap (λ l. take kept (reverse xs) ++ l)
+    (ap (λ k. reverse (take k xs)) joined ∙ reverse-take_front xs (kept + count) ∙ sym (drop-drop count kept (reverse xs)))

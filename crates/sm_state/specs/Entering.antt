@@ -18,19 +18,21 @@ use Rattle.sm_state.specs.declared.thread.Context.{Context}
 use Rattle.sm_state.specs.declared.thread.Thread.{Thread}
 use Rattle.sm_state.specs.declared.state.State.{State}
 
--- the tree of a part of a class, and how many locals it has
+-- the tree of a method, and how many locals it has
 abbrev pub method_body : Method → Option Body
 method_body m = option_map (λ e. record { node = ExprTree e; locals = m.locals }) m.body
 
+-- the same of a cell's initialiser
 abbrev pub cell_body : Cell → Body
 cell_body cell = record { node = ExprTree cell.init; locals = cell.locals }
 
--- the body of a part of a class, and of a class of a program
+-- the same of a part of a class
 abbrev pub body_in : Class → Part → Option Body
 body_in class (part.Method m) = option_and_then method_body (slice_get class.methods m)
 body_in class (part.Init cell) = option_map cell_body (slice_get class.cells cell)
 body_in class part.Constructor = Some (record { node = ConstructorTree class; locals = class.locals })
 
+-- the same of a part of a class of a program, by the number of the class
 abbrev pub body_of : Program → ℕ → Part → Option Body
 body_of p class part = option_and_then (λ c. body_in c part) (slice_get p.classes class)
 
@@ -63,9 +65,11 @@ main_entry class method m = record {
 abbrev pub main_in : ℕ → ℕ → Method → Option Context
 main_in class method m = option_map (entered (main_entry class method m)) (method_body m)
 
+-- the method with this number of a class
 abbrev pub method_at : Program → ℕ → ℕ → Option Method
 method_at p class method = option_and_then (λ c. slice_get c.methods method) (slice_get p.classes class)
 
+-- the context before the `main` of a program, if it has one
 abbrev pub main_context : Program → Option Context
 main_context p =
     option_and_then (λ found. option_and_then (main_in found.0 found.1) (method_at p found.0 found.1)) (find p p.main (codes "main"))

@@ -12,13 +12,15 @@ use Rattle.sm_state.specs.declared.once.Once.{Once}
 use Rattle.sm_state.specs.declared.once.Once.TheVariants as once
 use Rattle.sm_state.specs.declared.heap.Object.{Object}
 
--- the linearisation, the fields and the cells of a class; none where there is no such class
+-- the linearisation of a class; none where there is no such class
 abbrev pub linear_of : List Class → ℕ → List ℕ
 linear_of classes class = or_none (option_map (λ c. c.linear) (slice_get classes class))
 
+-- the fields of a class
 abbrev pub fields_of : List Class → ℕ → List Field
 fields_of classes class = or_none (option_map (λ c. c.fields) (slice_get classes class))
 
+-- the cells of a class
 abbrev pub cells_of : List Class → ℕ → List Cell
 cells_of classes class = or_none (option_map (λ c. c.cells) (slice_get classes class))
 
@@ -27,12 +29,13 @@ abbrev pub offset : {A : Type 0} → (ℕ → List A) → List ℕ → ℕ → O
 offset items [] class = None
 offset items (c ∷ linear) class = if c == class then Some 0 else option_map (λ n. length (items c) + n) (offset items linear class)
 
--- where the field of a class, and the cell of one, stands in an object of the class `of`
-abbrev pub field_place : List Class → ℕ → ℕ → ℕ → Option ℕ
-field_place classes of class field = option_map (λ n. n + field) (offset (fields_of classes) (linear_of classes of) class)
+-- the number that the field of a class has among the fields of an object of the class `of`
+abbrev pub field_number : List Class → ℕ → ℕ → ℕ → Option ℕ
+field_number classes of class field = option_map (λ n. n + field) (offset (fields_of classes) (linear_of classes of) class)
 
-abbrev pub cell_place : List Class → ℕ → ℕ → ℕ → Option ℕ
-cell_place classes of class cell = option_map (λ n. n + cell) (offset (cells_of classes) (linear_of classes of) class)
+-- the number that the cell of a class has among the cells of an object of the class `of`
+abbrev pub cell_number : List Class → ℕ → ℕ → ℕ → Option ℕ
+cell_number classes of class cell = option_map (λ n. n + cell) (offset (cells_of classes) (linear_of classes of) class)
 
 -- zero, false, () or null, by the type
 abbrev pub default_of : Ty → Value
@@ -47,7 +50,7 @@ abbrev pub initial : Option Value → Ty → Value
 initial None type = default_of type
 initial (Some v) type = v
 
--- the fields and the cells of an object whose class has this linearisation
+-- the fields of an object whose class has this linearisation
 abbrev pub made_fields : List Class → Option Value → List ℕ → List Value
 made_fields classes given [] = []
 made_fields classes given (c ∷ linear) = map (λ f. initial given f.ty) (fields_of classes c) ++ made_fields classes given linear

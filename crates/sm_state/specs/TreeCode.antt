@@ -14,10 +14,11 @@ use Rattle.ty_prog.specs.contracts.class.Class as class
 use Rattle.ty_prog.specs.contracts.stage.Stage as stage
 use Rattle.ty_prog.specs.Tree.{Tree, ExprTree, CaseTree, PatternTree, ConstructorTree, StageTree}
 
--- trees as a sum of the five kinds of roots, and back
+-- trees as a sum of the five kinds of roots
 abbrev Sum : Type 0
 Sum = Expr ⊎ (Case ⊎ (Pattern ⊎ (Class ⊎ Stage)))
 
+-- a tree as such a sum
 abbrev sum : Tree → Sum
 sum (ExprTree e) = inl e
 sum (CaseTree c) = inr (inl c)
@@ -25,6 +26,7 @@ sum (PatternTree p) = inr (inr (inl p))
 sum (ConstructorTree c) = inr (inr (inr (inl c)))
 sum (StageTree s) = inr (inr (inr (inr s)))
 
+-- the tree of such a sum
 abbrev tree : Sum → Tree
 tree (inl e) = ExprTree e
 tree (inr (inl c)) = CaseTree c
@@ -39,6 +41,7 @@ tree_sum (PatternTree p) = refl
 tree_sum (ConstructorTree c) = refl
 tree_sum (StageTree s) = refl
 
+-- the code of trees, by that of the sum
 abbrev pub coded_tree : Coded Tree
 coded_tree =
     code_by Sum

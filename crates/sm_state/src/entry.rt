@@ -30,6 +30,7 @@ pub struct Body<'p> {
     pub locals: u32,
 }
 
+// The tree of a method, and how many locals it has.
 pub(crate) fn method_body(m: &Method) -> Option<Body<'_>>
     ensures { result ≡ method_body m.now }
 {
@@ -42,6 +43,7 @@ pub(crate) fn method_body(m: &Method) -> Option<Body<'_>>
     }
 }
 
+// The same of a part of a class.
 fn body_in(class: &Class, part: Part) -> Option<Body<'_>>
     ensures { result ≡ body_in class.now part }
 {
@@ -94,7 +96,7 @@ fn add_unset(locals: &mut Sequence<Option<Value>>, count: usize) -> Result<(), N
     Ok(())
 }
 
-/// The context of a part as it is entered.
+/// The context of a part as it is entered. Errors: want of memory.
 pub fn enter<'p>(alloc: Global, entry: Entry, body: Body<'p>) -> Result<Context<'p>, NoMemory>
     ensures { IfOk result (λ made. made ≡ entered entry body.entry) }
 {
@@ -118,7 +120,7 @@ pub fn enter<'p>(alloc: Global, entry: Entry, body: Body<'p>) -> Result<Context<
     })
 }
 
-/// A thread with this context, or one that has ended.
+/// A thread with this context, or one that has ended. Errors: want of memory.
 pub fn begin<'p>(alloc: Global, context: Option<Context<'p>>) -> Result<Thread<'p>, NoMemory>
     ensures { IfOk result (λ made. made ≡ begun_thread context.entry) }
 {

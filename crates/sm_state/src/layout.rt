@@ -1,7 +1,7 @@
 //! Objects as they are made, and the places of their fields and cells.
 
 ghost use Rattle.std.specs.Prelude.{◌≡◌, ◌+◌, ◌++◌, map, IfOk, OnOk, option_map};
-ghost use Rattle.sm_state.specs.Layout.{linear_of, fields_of, cells_of, offset, field_place, cell_place, default_of, initial, made_fields, made_cells, made};
+ghost use Rattle.sm_state.specs.Layout.{linear_of, fields_of, cells_of, offset, field_number, cell_number, default_of, initial, made_fields, made_cells, made};
 ghost use Rattle.sm_state.specs.declared.once.Once.TheVariants as once;
 
 use crate::heap::Object;
@@ -22,6 +22,7 @@ pub fn linear_of(classes: &[Class], class: u32) -> &[u32]
     }
 }
 
+// The fields of a class.
 fn fields_of(classes: &[Class], class: u32) -> &[Field]
     ensures { result.now ≡ fields_of classes.now class }
 {
@@ -31,6 +32,7 @@ fn fields_of(classes: &[Class], class: u32) -> &[Field]
     }
 }
 
+// The cells of a class.
 fn cells_of(classes: &[Class], class: u32) -> &[Cell]
     ensures { result.now ≡ cells_of classes.now class }
 {
@@ -40,11 +42,11 @@ fn cells_of(classes: &[Class], class: u32) -> &[Cell]
     }
 }
 
-// A sum of places, where there is room for it.
-fn behind(count: usize, place: Option<usize>) -> Result<Option<usize>, NoMemory>
-    ensures { IfOk result (λ sum. sum ≡ option_map (λ n. count + n) place) }
+// The number of an item behind this many more, where there is room for it.
+fn behind(count: usize, number: Option<usize>) -> Result<Option<usize>, NoMemory>
+    ensures { IfOk result (λ sum. sum ≡ option_map (λ n. count + n) number) }
 {
-    match place {
+    match number {
         None => Ok(None),
         Some(n) => match count.checked_add(n) {
             Some(sum) => Ok(Some(sum)),
@@ -53,8 +55,9 @@ fn behind(count: usize, place: Option<usize>) -> Result<Option<usize>, NoMemory>
     }
 }
 
+// The number of the first field of a class among those of an object, whose class has this linearisation.
 fn field_offset(classes: &[Class], linear: &[u32], class: u32) -> Result<Option<usize>, NoMemory>
-    ensures { IfOk result (λ place. place ≡ offset (fields_of classes.now) linear.now class) }
+    ensures { IfOk result (λ number. number ≡ offset (fields_of classes.now) linear.now class) }
 {
     match linear.split_first() {
         None => Ok(None),
@@ -70,8 +73,9 @@ fn field_offset(classes: &[Class], linear: &[u32], class: u32) -> Result<Option<
     }
 }
 
+// The number of the first cell of a class among those of an object, whose class has this linearisation.
 fn cell_offset(classes: &[Class], linear: &[u32], class: u32) -> Result<Option<usize>, NoMemory>
-    ensures { IfOk result (λ place. place ≡ offset (cells_of classes.now) linear.now class) }
+    ensures { IfOk result (λ number. number ≡ offset (cells_of classes.now) linear.now class) }
 {
     match linear.split_first() {
         None => Ok(None),
@@ -87,11 +91,11 @@ fn cell_offset(classes: &[Class], linear: &[u32], class: u32) -> Result<Option<u
     }
 }
 
-// The place of an item behind this many.
-fn item(place: Option<usize>, number: u32) -> Result<Option<usize>, NoMemory>
-    ensures { IfOk result (λ sum. sum ≡ option_map (λ n. n + number) place) }
+// The number of an item behind the first one of its class, where there is room for it.
+fn item(first: Option<usize>, number: u32) -> Result<Option<usize>, NoMemory>
+    ensures { IfOk result (λ sum. sum ≡ option_map (λ n. n + number) first) }
 {
-    match place {
+    match first {
         None => Ok(None),
         Some(n) => match n.checked_add(number as usize) {
             Some(sum) => Ok(Some(sum)),
@@ -100,26 +104,26 @@ fn item(place: Option<usize>, number: u32) -> Result<Option<usize>, NoMemory>
     }
 }
 
-/// Where a field stands in an object of the class `of`.
-pub fn field_place(
+/// The number of a field among those of an object of the class `of`. Errors: want of memory, for a number past `usize`.
+pub fn field_number(
     classes: &[Class],
     of: u32,
     class: u32,
     field: u32,
 ) -> Result<Option<usize>, NoMemory>
-    ensures { IfOk result (λ place. place ≡ field_place classes.now of class field) }
+    ensures { IfOk result (λ number. number ≡ field_number classes.now of class field) }
 {
     item(field_offset(classes, linear_of(classes, of), class)?, field)
 }
 
-/// Where a cell stands in an object of the class `of`.
-pub fn cell_place(
+/// The number of a cell among those of an object of the class `of`. Errors: want of memory, for a number past `usize`.
+pub fn cell_number(
     classes: &[Class],
     of: u32,
     class: u32,
     cell: u32,
 ) -> Result<Option<usize>, NoMemory>
-    ensures { IfOk result (λ place. place ≡ cell_place classes.now of class cell) }
+    ensures { IfOk result (λ number. number ≡ cell_number classes.now of class cell) }
 {
     item(cell_offset(classes, linear_of(classes, of), class)?, cell)
 }
@@ -137,6 +141,7 @@ pub fn default_of(ty: Ty) -> Value
     }
 }
 
+// What a field of this type begins with.
 fn initial(alloc: Global, given: &Option<Value>, ty: Ty) -> Result<Value, NoMemory>
     ensures { IfOk result (λ made. made ≡ initial given.now ty) }
 {
@@ -161,6 +166,7 @@ fn add_fields(
     Ok(())
 }
 
+// Adds the cells of a class, all Empty.
 fn add_cells(cells: &[Cell], made: &mut Sequence<Once>) -> Result<(), NoMemory>
     ensures { OnOk result (made.new ≡ made.old ++ map (λ cell. once.Empty) cells.now) }
 {
@@ -170,6 +176,7 @@ fn add_cells(cells: &[Cell], made: &mut Sequence<Once>) -> Result<(), NoMemory>
     Ok(())
 }
 
+// Adds the fields of the classes of a linearisation.
 fn add_all_fields(
     alloc: Global,
     classes: &[Class],
@@ -188,6 +195,7 @@ fn add_all_fields(
     }
 }
 
+// Adds the cells of the classes of a linearisation.
 fn add_all_cells(
     classes: &[Class],
     linear: &[u32],
@@ -204,7 +212,8 @@ fn add_all_cells(
     }
 }
 
-/// An object of this class, with all fields as given, or with their defaults, and its cells empty.
+/// An object of this class, with all fields as given, or with their defaults (JVMS 2.3, 2.4), and its cells empty. Errors:
+/// want of memory.
 pub fn made(
     alloc: Global,
     classes: &[Class],

@@ -17,7 +17,7 @@ mod value;
 
 pub use entry::{Body, Entry, begin, body_of, enter, method_at};
 pub use heap::{Heap, Object};
-pub use layout::{cell_place, default_of, field_place, linear_of, made};
+pub use layout::{cell_number, default_of, field_number, linear_of, made};
 pub use module::Module;
 pub use once::Once;
 pub use part::Part;

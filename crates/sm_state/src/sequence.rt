@@ -1,6 +1,6 @@
 //! Lists whose items are changed where they stand.
 
-ghost use Rattle.std.specs.Prelude.{◌≡◌, [], ◌∷◌, ◌++◌, ◌<◌, length, slice_get, slice_set, OnOk, OnErr, Some};
+ghost use Rattle.std.specs.Prelude.{◌≡◌, [], ◌∷◌, ◌++◌, ◌<◌, length, take, slice_get, slice_set, OnOk, OnErr, Some};
 ghost use Rattle.std.specs.Option.{option_copied};
 ghost use Rattle.std.specs.Borrow.{sem};
 
@@ -27,6 +27,7 @@ impl<T> Model for Sequence<T> {
 impl<T> Sequence<T> {
     ghost use Rattle.sm_state.specs.Lends.{lends_item};
 
+    /// An empty list.
     pub fn new(alloc: Global) -> Sequence<T>
         ensures { result ≡ [] }
     {
@@ -35,12 +36,14 @@ impl<T> Sequence<T> {
         }
     }
 
+    /// How many items there are.
     pub fn len(&self) -> usize
         ensures { result ≡ length self.now }
     {
         self.items.len()
     }
 
+    /// The item with this number, if there is one.
     pub fn get(&self, at: usize) -> Option<&T>
         ensures { option_copied result ≡ slice_get self.now at }
     {
@@ -56,6 +59,7 @@ impl<T> Sequence<T> {
         &mut self.items[at]
     }
 
+    /// Adds an item at the end. Errors: want of memory; the list stays as it was.
     pub fn push(&mut self, item: T) -> Result<(), AllocError>
     where
         T: Drop,
@@ -75,5 +79,14 @@ impl<T> Sequence<T> {
         if at < self.items.len() {
             self.items[at] = item;
         }
+    }
+
+    /// Keeps the first items alone, so many of them.
+    pub fn cut(&mut self, count: usize)
+    where
+        T: Drop,
+        ensures { self.new ≡ take count self.old }
+    {
+        self.items.truncate(count);
     }
 }

@@ -1,6 +1,6 @@
 //! Lists that grow and shrink at one end.
 
-ghost use Rattle.std.specs.Prelude.{◌≡◌, [], ◌∷◌, ◌<◌, length, drop, slice_get, IfErr, OnOk, MatchOption, Some};
+ghost use Rattle.std.specs.Prelude.{◌≡◌, [], ◌∷◌, ◌++◌, ◌<◌, ◌≤◌, length, take, drop, slice_get, IfErr, OnOk, MatchOption, Some};
 ghost use Rattle.std.specs.Option.{option_copied};
 ghost use Rattle.std.specs.Borrow.{sem};
 
@@ -27,6 +27,7 @@ impl<T> Model for Stack<T> {
 impl<T> Stack<T> {
     ghost use Rattle.sm_state.specs.Lends.{lends_top};
 
+    /// An empty stack.
     pub fn new(alloc: Global) -> Stack<T>
         ensures { result ≡ [] }
     {
@@ -35,6 +36,7 @@ impl<T> Stack<T> {
         }
     }
 
+    /// How many items there are.
     pub fn len(&self) -> usize
         ensures { result ≡ length self.now }
     {
@@ -70,7 +72,7 @@ impl<T> Stack<T> {
         &mut self.items[last]
     }
 
-    /// Puts an item on top, or hands it back.
+    /// Puts an item on top. Errors: want of memory, with the item handed back.
     pub fn push(&mut self, item: T) -> Result<(), AllocFailed<T>>
         ensures ok { OnOk result (self.new ≡ item ∷ self.old) }
         ensures err { IfErr result (λ e. (e.value ≡ item) × (self.new ≡ self.old)) }
@@ -93,5 +95,27 @@ impl<T> Stack<T> {
     {
         let kept = self.items.len().saturating_sub(count);
         self.items.truncate(kept);
+    }
+
+    /// Takes so many items out from below the top ones that stay, or all that are there.
+    pub fn take_below(&mut self, kept: usize, count: usize)
+    where
+        T: Drop,
+        ensures { self.new ≡ take kept self.old ++ drop count (drop kept self.old) }
+    {
+        let below = self.items.len().saturating_sub(kept);
+        let left = below.saturating_sub(count);
+        cut_out(&mut self.items, left, below);
+    }
+}
+
+// Takes out the items from one number up to another.
+fn cut_out<T: Drop>(items: &mut Vec<T>, from: usize, to: usize)
+    requires ordered { from ≤ to }
+    requires there { to ≤ length items.old.items }
+    ensures { items.new.items ≡ take from items.old.items ++ drop to items.old.items }
+{
+    for n in from..to {
+        drop(items.remove(from));
     }
 }

@@ -19,6 +19,7 @@ use sl_base::{Name, NoMemory};
 use std::alloc::{AllocError, Global};
 use ty_prog::{Class, Method, Program, find};
 
+// No object definition is initialised.
 fn not_yet(alloc: Global, classes: &[Class]) -> Result<Sequence<Module>, NoMemory>
     ensures { IfOk result (λ made. made ≡ map (λ c. modules.NotYet) classes.now) }
 {
@@ -40,6 +41,7 @@ fn first_heap(alloc: Global, p: &Program) -> Result<Heap, NoMemory>
     })
 }
 
+// So many nulls.
 fn nulls(alloc: Global, count: usize) -> Result<Sequence<Option<Value>>, NoMemory>
     ensures { IfOk result (λ made. made ≡ replicate count (Some value.Null)) }
 {
@@ -50,6 +52,7 @@ fn nulls(alloc: Global, count: usize) -> Result<Sequence<Option<Value>>, NoMemor
     Ok(made)
 }
 
+// The context before `main`.
 fn main_in<'p>(
     alloc: Global,
     class: u32,
@@ -93,7 +96,7 @@ fn plain(alloc: Global, text: &str) -> Result<Name, AllocError>
     Name::from_text(alloc, text)
 }
 
-/// The first state of a program: thread 1 before `main`.
+/// The first state of a program: thread 1 before `main`. Errors: want of memory.
 pub fn start(alloc: Global, p: &Program) -> Result<State<'_>, NoMemory>
     ensures { IfOk result (λ made. made ≡ start p.now) }
 {

@@ -1,4 +1,4 @@
-use crate::{Module, Once, State, Value, field_place, made, start};
+use crate::{Module, Once, State, Value, field_number, made, start};
 use sl_base::NoMemory;
 use sqlite_items::Items;
 use std::alloc::Global;
@@ -60,8 +60,8 @@ fn new_objects(rt: HostRuntime) -> Result<(), Fail> {
     }
     let given = Some(Value::Text(Name::from_text(rt.alloc(), "P")?));
     let o = made(rt.alloc(), classes, MATCH_ERROR, &given)?;
-    let place = field_place(classes, MATCH_ERROR, THROWABLE, 0)?;
-    assert_eq!(rt; place, Some(3));
+    let number = field_number(classes, MATCH_ERROR, THROWABLE, 0)?;
+    assert_eq!(rt; number, Some(3));
     assert!(rt; matches!(o.fields.get(3), Some(Value::Text(_))));
     let o = made(rt.alloc(), classes, PRELUDE_LEN, &None)?;
     assert!(rt; matches!(o.cells.get(0), Some(Once::Empty)));

@@ -25,7 +25,7 @@ pub enum Value {
 }
 
 impl Value {
-    /// A value equal to this one.
+    /// A value equal to this one. Errors: want of memory.
     pub fn copy(&self, alloc: Global) -> Result<Value, NoMemory>
         ensures { IfOk result (λ made. made ≡ self.now) }
     {

@@ -1,2 +1,3 @@
 pub mod Contexts
+pub mod Escaping
 pub mod Machine

@@ -1,5 +1,5 @@
 -- The state of a machine, as a state of the system `meaning` of its program.
-use Rattle.std.specs.Prelude.{ℕ, zero, suc, List, [], ◌∷◌, length, Option, Some, None, slice_get}
+use Rattle.std.specs.Prelude.{ℕ, zero, suc, List, [], ◌∷◌, length, take, Option, Some, None, slice_get, slice_set}
 use Rattle.runs.specs.SharedHeap.{HeapState}
 use Rattle.sm_state.specs.Entering.{begun_thread}
 use Rattle.sm_state.specs.declared.heap.Heap.{Heap}
@@ -29,3 +29,8 @@ numbered lanes (suc t) = thread_or_ended (slice_get lanes t)
 -- what threads share, and the threads, as a state of the system
 abbrev pub state_of : Heap → List Lane → HeapState Heap Thread
 state_of h lanes = record { heap = h; count = length lanes; threads = numbered lanes }
+
+-- the threads with the one that began at this place, behind all others; or with nothing there
+abbrev pub with_born : ℕ → Option Lane → List Lane → List Lane
+with_born at None lanes = take at lanes
+with_born at (Some l) lanes = slice_set lanes at l

@@ -1,11 +1,11 @@
 //! What a part leaves in what threads share, where a value or an exception comes out of it.
 
 ghost use Rattle.std.specs.Prelude.{◌≡◌, IfOk};
-ghost use Rattle.sm_rule.specs.Step.{kind_of, module_edit, cell_edit_at, cell_edit, noted, dropped, awaits_object};
+ghost use Rattle.sm_rule.specs.Step.{class_kind, module_edit, cell_edit_at, cell_edit, noted, dropped, awaits_object};
 
 use sl_base::NoMemory;
 use sm_rule::Edit;
-use sm_state::{Context, Heap, Module, Once, Part, Value, cell_place};
+use sm_state::{Context, Heap, Module, Once, Part, Value, cell_number};
 use std::alloc::Global;
 use ty_prog::{Kind, Program};
 
@@ -19,8 +19,8 @@ pub fn awaits_object(this: &Value, part: Part) -> bool
     }
 }
 
-fn kind_of(p: &Program, class: u32) -> Kind
-    ensures { result ≡ kind_of p.now class }
+pub(crate) fn class_kind(p: &Program, class: u32) -> Kind
+    ensures { result ≡ class_kind p.now class }
 {
     match p.classes.get(class as usize) {
         Some(c) => c.kind,
@@ -40,10 +40,10 @@ fn module_edit(class: u32, state: Module, kind: Kind) -> Edit
     }
 }
 
-fn cell_edit_at(object: u32, once: Once, place: Option<usize>) -> Edit
-    ensures { result ≡ cell_edit_at object once place }
+fn cell_edit_at(object: u32, once: Once, number: Option<usize>) -> Edit
+    ensures { result ≡ cell_edit_at object once number }
 {
-    match place {
+    match number {
         None => Edit::Nothing,
         Some(at) => Edit::Cell { object, at, once },
     }
@@ -63,8 +63,8 @@ fn cell_edit(
         Value::Ref(r) => match h.objects.get(*r as usize) {
             None => Ok(Edit::Nothing),
             Some(o) => {
-                let place = cell_place(p.classes.as_slice(), o.class, class, cell)?;
-                Ok(cell_edit_at(*r, once, place))
+                let number = cell_number(p.classes.as_slice(), o.class, class, cell)?;
+                Ok(cell_edit_at(*r, once, number))
             }
         },
         _ => Ok(Edit::Nothing),
@@ -86,7 +86,7 @@ pub fn noted(
         Part::Init(cell) => cell_edit(p, h, c.class, cell, Once::Done(v.copy(alloc)?), &c.this),
         Part::Constructor => {
             let ready = Module::Ready(c.this.copy(alloc)?);
-            Ok(module_edit(c.class, ready, kind_of(p, c.class)))
+            Ok(module_edit(c.class, ready, class_kind(p, c.class)))
         }
     }
 }
@@ -98,6 +98,6 @@ pub fn dropped(p: &Program, h: &Heap, c: &Context<'_>) -> Result<Edit, NoMemory>
     match c.part {
         Part::Method(_) => Ok(Edit::Nothing),
         Part::Init(cell) => cell_edit(p, h, c.class, cell, Once::Empty, &c.this),
-        Part::Constructor => Ok(module_edit(c.class, Module::Bad, kind_of(p, c.class))),
+        Part::Constructor => Ok(module_edit(c.class, Module::Bad, class_kind(p, c.class))),
     }
 }

@@ -19,6 +19,7 @@ pub fn members_agree(p: &Program) -> bool
         .all(|class| agrees(p, class.linear.as_slice()))
 }
 
+// Whether members of one name agree along a linearisation.
 fn agrees(p: &Program, linear: &[u32]) -> bool
     ensures { IsTrue result ↔ Agrees p.now linear.now }
 {
@@ -34,6 +35,7 @@ fn all_agree(classes: &[Class], linear: &[u32]) -> bool
         .all(|number| number_agrees(classes, linear, *number))
 }
 
+// Whether the members of this class agree with those of each class of a linearisation.
 fn number_agrees(classes: &[Class], linear: &[u32], number: u32) -> bool
     ensures { IsTrue result ↔ HoldsOf classes.now (AgreesWith classes.now linear.now) number }
 {
@@ -43,6 +45,7 @@ fn number_agrees(classes: &[Class], linear: &[u32], number: u32) -> bool
     }
 }
 
+// The same of a class.
 fn agrees_with(classes: &[Class], linear: &[u32], class: &Class) -> bool
     ensures { IsTrue result ↔ AgreesWith classes.now linear.now class.now }
 {
@@ -52,6 +55,7 @@ fn agrees_with(classes: &[Class], linear: &[u32], class: &Class) -> bool
         .all(|number| agrees_with_number(classes, *number, methods))
 }
 
+// Whether methods agree with those of the class with this number.
 fn agrees_with_number(classes: &[Class], number: u32, methods: &[Method]) -> bool
     ensures { IsTrue result ↔ HoldsOf classes.now (λ other. ListsAgree methods.now other.methods) number }
 {
@@ -61,18 +65,21 @@ fn agrees_with_number(classes: &[Class], number: u32, methods: &[Method]) -> boo
     }
 }
 
+// Whether each method of one list agrees with each of another.
 fn lists_agree(ones: &[Method], others: &[Method]) -> bool
     ensures { IsTrue result ↔ ListsAgree ones.now others.now }
 {
     ones.iter().all(|one| method_agrees(one, others))
 }
 
+// Whether a method agrees with each of a list.
 fn method_agrees(one: &Method, others: &[Method]) -> bool
     ensures { IsTrue result ↔ All (MethodsAgree one.now) others.now }
 {
     others.iter().all(|two| methods_agree(one, two))
 }
 
+// Whether two methods of one name have one signature.
 fn methods_agree(one: &Method, two: &Method) -> bool
     ensures { IsTrue result ↔ MethodsAgree one.now two.now }
 {
@@ -86,12 +93,14 @@ fn same_types(one: &Method, two: &Method) -> bool
     same_list(one.params.as_slice(), two.params.as_slice()) && same_type(one.result, two.result)
 }
 
+// Whether two lists of types are one.
 fn same_list(ones: &[Ty], others: &[Ty]) -> bool
     ensures { IsTrue result ↔ (ones.now ≡ others.now) }
 {
     ones == others
 }
 
+// Whether two types are one.
 fn same_type(one: Ty, other: Ty) -> bool
     ensures { IsTrue result ↔ (one ≡ other) }
 {

@@ -16,18 +16,21 @@ pub fn methods_fit_any_ref(p: &Program) -> bool
     p.classes.as_slice().iter().all(class_fits)
 }
 
+// Whether all methods of a class fit those of AnyRef.
 fn class_fits(class: &Class) -> bool
     ensures { IsTrue result ↔ All FitsAnyRef class.now.methods }
 {
     class.methods.as_slice().iter().all(fits_any_ref)
 }
 
+// Whether a method fits those of AnyRef (SLS 12.1).
 fn fits_any_ref(method: &Method) -> bool
     ensures { IsTrue result ↔ FitsAnyRef method.now }
 {
     method.is_static || (text_fits(method) && equality_fits(method))
 }
 
+// Whether it has the signature of `toString`, if that is its name.
 fn text_fits(method: &Method) -> bool
     ensures { IsTrue result ↔ (method.now.name ≡ codes "toString" → (method.now.params ≡ []) × (method.now.result ≡ ty.Text)) }
 {
@@ -35,6 +38,7 @@ fn text_fits(method: &Method) -> bool
         || (has_none(method.params.as_slice()) && is_type(method.result, Ty::Text))
 }
 
+// Whether it has the signature of `equals`, if that is its name.
 fn equality_fits(method: &Method) -> bool
     ensures { IsTrue result ↔ (method.now.name ≡ codes "equals" → (method.now.params ≡ ty.Any ∷ []) × (method.now.result ≡ ty.Boolean)) }
 {
@@ -42,24 +46,28 @@ fn equality_fits(method: &Method) -> bool
         || (is_any_alone(method.params.as_slice()) && is_type(method.result, Ty::Boolean))
 }
 
+// Whether a name is `toString`.
 fn is_to_string(name: &Name) -> bool
     ensures { IsTrue result ↔ (name.now ≡ codes "toString") }
 {
     is_text(name, "toString")
 }
 
+// Whether a name is `equals`.
 fn is_equals(name: &Name) -> bool
     ensures { IsTrue result ↔ (name.now ≡ codes "equals") }
 {
     is_text(name, "equals")
 }
 
+// Whether there are no parameters.
 fn has_none(params: &[Ty]) -> bool
     ensures { IsTrue result ↔ (params.now ≡ []) }
 {
     params.is_empty()
 }
 
+// Whether Any is the only parameter.
 fn is_any_alone(params: &[Ty]) -> bool
     ensures { IsTrue result ↔ (params.now ≡ ty.Any ∷ []) }
 {
@@ -69,6 +77,7 @@ fn is_any_alone(params: &[Ty]) -> bool
     }
 }
 
+// Whether two types are one.
 fn is_type(one: Ty, other: Ty) -> bool
     ensures { IsTrue result ↔ (one ≡ other) }
 {

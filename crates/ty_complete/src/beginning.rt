@@ -9,7 +9,7 @@ use std::alloc::Global;
 use ty_prog::{Class, Program, prelude};
 use ty_walk::same_classes;
 
-/// Whether the first classes of a program are those of the prelude.
+/// Whether the first classes of a program are those of the prelude. Errors: want of memory.
 pub fn begins_with_prelude(alloc: Global, p: &Program) -> Result<bool, NoMemory>
     ensures { IfOk result (λ answer. IsTrue answer ↔ BeginsWithPrelude p.now) }
 {
@@ -19,6 +19,7 @@ pub fn begins_with_prelude(alloc: Global, p: &Program) -> Result<bool, NoMemory>
     Ok(begins_with(p.classes.as_slice(), wanted.as_slice()))
 }
 
+// Whether classes begin with these.
 fn begins_with(classes: &[Class], wanted: &[Class]) -> bool
     ensures { IsTrue result ↔ (take (length wanted.now) classes.now ≡ wanted.now) }
 {

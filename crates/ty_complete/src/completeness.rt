@@ -1,9 +1,9 @@
-//! Whether a program is complete.
+//! The parts of completeness, by what they look at.
 
 ghost use Rattle.std.specs.Prelude.{◌↔◌, IfOk, IsTrue};
 ghost use Rattle.ty_conform.specs.Carried.{HasLinearisations};
 ghost use Rattle.ty_flow.specs.SetFirst.{LocalsAreSetFirst};
-ghost use Rattle.ty_complete.specs.Complete.{BeginsWithPrelude, FilesDiffer, NamesFit, WordsFit, TextsFit, ParametersFit, OnlyClassesHaveParameters, TypesAreDeclared, MethodsFitAnyRef, MembersDiffer, ParentsDiffer, ParentsFit, ParentsAreNoObjects, ParentsAreNoThreads, NewIsConcrete, PreludeIsClosed, MembersAgree, FindsAll, HasMain, Complete};
+ghost use Rattle.ty_complete.specs.Complete.{BeginsWithPrelude, FilesDiffer, NamesFit, WordsFit, TextsFit, ParametersFit, OnlyClassesHaveParameters, TypesAreDeclared, MethodsFitAnyRef, MembersDiffer, ParentsDiffer, ParentsFit, ParentsAreNoObjects, ParentsAreNoThreads, NewIsConcrete, PreludeIsClosed, MembersAgree, FindsAll, HasMain};
 
 use crate::NoMemory;
 use crate::agreeing::members_agree;
@@ -26,27 +26,8 @@ use std::alloc::Global;
 use ty_flow::locals_are_set_first;
 use ty_prog::Program;
 
-/// Whether a program is complete. Errors: want of memory.
-pub fn is_complete(alloc: Global, p: &Program) -> Result<bool, NoMemory>
-    ensures { IfOk result (λ answer. IsTrue answer ↔ Complete p.now) }
-{
-    if !members_fit(p) {
-        return Ok(false);
-    }
-    if !parents_are_right(p) {
-        return Ok(false);
-    }
-    if !names_are_right(alloc, p)? {
-        return Ok(false);
-    }
-    if !classes_fit(alloc, p)? {
-        return Ok(false);
-    }
-    Ok(nodes_fit(p))
-}
-
 // What the members of each class tell.
-fn members_fit(p: &Program) -> bool
+pub(crate) fn members_fit(p: &Program) -> bool
     ensures { IsTrue result ↔ (NamesFit p.now × ParametersFit p.now × OnlyClassesHaveParameters p.now × MethodsFitAnyRef p.now × MembersDiffer p.now) }
 {
     if !names_fit(p) {
@@ -65,14 +46,14 @@ fn members_fit(p: &Program) -> bool
 }
 
 // What the parents of each class tell.
-fn parents_are_right(p: &Program) -> bool
+pub(crate) fn parents_are_right(p: &Program) -> bool
     ensures { IsTrue result ↔ (ParentsDiffer p.now × ParentsFit p.now × ParentsAreNoObjects p.now × ParentsAreNoThreads p.now) }
 {
     parents_differ(p) && parents_fit(p) && parents_are_no_objects(p) && parents_are_no_threads(p)
 }
 
 // What the names and types of classes tell.
-fn names_are_right(alloc: Global, p: &Program) -> Result<bool, NoMemory>
+pub(crate) fn names_are_right(alloc: Global, p: &Program) -> Result<bool, NoMemory>
     ensures { IfOk result (λ answer. IsTrue answer ↔ (BeginsWithPrelude p.now × WordsFit p.now × FilesDiffer p.now × TypesAreDeclared p.now)) }
 {
     if !begins_with_prelude(alloc, p)? {
@@ -88,7 +69,7 @@ fn names_are_right(alloc: Global, p: &Program) -> Result<bool, NoMemory>
 }
 
 // What the classes tell together.
-fn classes_fit(alloc: Global, p: &Program) -> Result<bool, NoMemory>
+pub(crate) fn classes_fit(alloc: Global, p: &Program) -> Result<bool, NoMemory>
     ensures { IfOk result (λ answer. IsTrue answer ↔ (HasLinearisations p.now × HasMain p.now × MembersAgree p.now × FindsAll p.now)) }
 {
     if !has_linearisations(alloc, p)? {
@@ -104,7 +85,7 @@ fn classes_fit(alloc: Global, p: &Program) -> Result<bool, NoMemory>
 }
 
 // What the nodes of trees tell.
-fn nodes_fit(p: &Program) -> bool
+pub(crate) fn nodes_fit(p: &Program) -> bool
     ensures { IsTrue result ↔ (TextsFit p.now × NewIsConcrete p.now × PreludeIsClosed p.now × LocalsAreSetFirst p.now) }
 {
     if !texts_fit(p) {

@@ -18,6 +18,7 @@ pub fn types_are_declared(alloc: Global, p: &Program) -> Result<bool, NoMemory>
     Ok(all_types_declared(alloc, p.classes.as_slice())?)
 }
 
+// Whether all types that some classes declare may be declared.
 fn all_types_declared(alloc: Global, classes: &[Class]) -> Result<bool, AllocError>
     ensures { IfOk result (λ answer. answer ≡ list_all types_declared classes.now) }
 {
@@ -38,18 +39,21 @@ fn types_declared(alloc: Global, class: &Class) -> Result<bool, AllocError>
     methods_declared(alloc, class.methods.as_slice())
 }
 
+// Whether the types of fields may.
 fn fields_declared(fields: &[Field]) -> bool
     ensures { result ≡ list_all (λ f. is_declared f.ty) fields.now }
 {
     fields.iter().all(|field| is_declared(field.ty))
 }
 
+// Whether the types of lazy members may.
 fn cells_declared(cells: &[Cell]) -> bool
     ensures { result ≡ list_all (λ c. is_declared c.ty) cells.now }
 {
     cells.iter().all(|cell| is_declared(cell.ty))
 }
 
+// Whether the types of methods may.
 fn methods_declared(alloc: Global, methods: &[Method]) -> Result<bool, AllocError>
     ensures { IfOk result (λ answer. answer ≡ list_all method_declared methods.now) }
 {
@@ -76,6 +80,7 @@ fn params_declared(name: &[Word], params: &[Ty]) -> bool
         || (is_static_main_name(name) && are_behind_object(params))
 }
 
+// Whether the parameters are an object's, and behind it those of an entry.
 fn are_behind_object(params: &[Ty]) -> bool
     ensures { result ≡ (list_all is_declared (take 1 params.now) && is_entry_list (drop 1 params.now)) }
 {
@@ -85,6 +90,7 @@ fn are_behind_object(params: &[Ty]) -> bool
     }
 }
 
+// Whether some types may.
 fn all_declared(types: &[Ty]) -> bool
     ensures { result ≡ list_all is_declared types.now }
 {

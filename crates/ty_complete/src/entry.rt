@@ -11,7 +11,7 @@ use ty_conform::is_object;
 use ty_prog::{Class, Name, Program, Ty, find};
 
 /// Whether `main` is an object for which `find` gives a `main` of no parameter or of one of type Array, and of result
-/// Unit.
+/// Unit. Errors: want of memory.
 pub fn has_main(alloc: Global, p: &Program) -> Result<bool, NoMemory>
     ensures { IfOk result (λ answer. IsTrue answer ↔ HasMain p.now) }
 {

@@ -33,6 +33,7 @@ fn files(alloc: Global, classes: &[Class]) -> Result<Items<Name>, AllocError>
     Ok(names)
 }
 
+// The name of the class file of a class.
 fn file(alloc: Global, class: &Class) -> Result<Name, AllocError>
     ensures { IfOk result (λ name. name ≡ file class.now.kind class.now.name) }
 {
@@ -42,7 +43,7 @@ fn file(alloc: Global, class: &Class) -> Result<Name, AllocError>
     }
 }
 
-/// A name with a text behind it.
+/// A name with a text behind it. Errors: want of memory.
 pub fn longer(alloc: Global, name: &Name, end: &str) -> Result<Name, AllocError>
     requires { IsTrue (list_all is_ascii end.now) }
     ensures { IfOk result (λ made. made ≡ name.now ++ end.now) }
@@ -52,6 +53,7 @@ pub fn longer(alloc: Global, name: &Name, end: &str) -> Result<Name, AllocError>
     Ok(Name::from_string(text))
 }
 
+// Whether no two names are one.
 fn all_apart(names: &[Name]) -> bool
     ensures { IsTrue result ↔ AllPairs (λ one other. one ≢ other) names.now }
 {
@@ -63,18 +65,21 @@ fn all_apart(names: &[Name]) -> bool
     true
 }
 
+// Whether a name is none of some others.
 fn is_none_of(name: &Name, others: &[Name]) -> bool
     ensures { IsTrue result ↔ All (λ other. name.now ≢ other) others.now }
 {
     others.iter().all(|other| *name != *other)
 }
 
+// Whether no name is `Main`.
 fn none_is_main(names: &[Name]) -> bool
     ensures { IsTrue result ↔ All (λ name. name ≢ codes "Main") names.now }
 {
     names.iter().all(|name| !is_main(name))
 }
 
+// Whether a name is `Main`.
 fn is_main(name: &Name) -> bool
     ensures { IsTrue result ↔ (name.now ≡ codes "Main") }
 {

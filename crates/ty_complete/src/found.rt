@@ -26,6 +26,7 @@ pub fn finds_all(p: &Program) -> Result<bool, NoMemory>
     Ok(true)
 }
 
+// Whether a class that has objects finds its members.
 fn finds_where_it_must(p: &Program, class: u32) -> bool
     ensures { IsTrue result ↔ (HasObjects p.now class → FindsIts p.now class) }
 {
@@ -35,6 +36,7 @@ fn finds_where_it_must(p: &Program, class: u32) -> bool
     finds_its(p, class)
 }
 
+// Whether a class finds its members.
 fn finds_its(p: &Program, class: u32) -> bool
     ensures { IsTrue result ↔ FindsIts p.now class }
 {
@@ -45,6 +47,7 @@ fn finds_its(p: &Program, class: u32) -> bool
     }
 }
 
+// Whether it finds those of the classes of a list.
 fn finds_in(p: &Program, class: u32, linear: &[u32]) -> bool
     ensures { IsTrue result ↔ FindsIn p.now class linear.now }
 {

@@ -14,7 +14,7 @@ use ty_linear::linearisations;
 use ty_prog::{Class, Program};
 
 /// Whether no class is its own ancestor, and each carries its linearisation (SLS 5.1.2). A parent's number that is no
-/// class's counts as a class without parents.
+/// class's counts as a class without parents. Errors: want of memory.
 pub fn has_linearisations(alloc: Global, p: &Program) -> Result<bool, NoMemory>
     ensures { IfOk result (λ answer. IsTrue answer ↔ HasLinearisations p.now) }
 {
@@ -22,6 +22,7 @@ pub fn has_linearisations(alloc: Global, p: &Program) -> Result<bool, NoMemory>
     Ok(all_carried(alloc, p.classes.as_slice())?)
 }
 
+// Whether all classes carry their linearisations.
 fn all_carried(alloc: Global, classes: &[Class]) -> Result<bool, NoMemory>
     ensures { IfOk result (λ answer. IsTrue answer ↔ AreCarried classes.now) }
 {
@@ -33,6 +34,7 @@ fn all_carried(alloc: Global, classes: &[Class]) -> Result<bool, NoMemory>
     Ok(true)
 }
 
+// Whether a class carries itself and then what is merged from its parents.
 fn is_carried(
     alloc: Global,
     classes: &[Class],
@@ -51,13 +53,14 @@ fn is_list(number: usize, list: &[u32], above: &[u32]) -> bool
 {
     match list.split_first() {
         Some((first, rest)) => {
-            *first as usize == number && *rest == *above && !stands_in(above, *first)
+            *first as usize == number && *rest == *above && !is_in(above, *first)
         }
         None => false,
     }
 }
 
-fn stands_in(classes: &[u32], class: u32) -> bool
+// Whether a class stands in a list.
+fn is_in(classes: &[u32], class: u32) -> bool
     ensures { result ≡ is_in classes.now class }
 {
     classes.iter().any(|other| class == *other)
@@ -74,6 +77,7 @@ fn merged(alloc: Global, classes: &[Class], parents: &[u32]) -> Result<Items<u32
     Ok(list)
 }
 
+// What is merged, with the list of one more parent in front.
 fn with_parent(
     alloc: Global,
     classes: &[Class],
@@ -103,7 +107,7 @@ fn lacking(alloc: Global, front: &[u32], behind: &[u32]) -> Result<Items<u32>, A
 {
     let mut list = Items::new(alloc);
     for class in front {
-        if !stands_in(behind, *class) {
+        if !is_in(behind, *class) {
             list.push(*class)?;
         }
     }

@@ -15,6 +15,7 @@ pub fn members_differ(p: &Program) -> bool
     p.classes.as_slice().iter().all(have_names)
 }
 
+// Whether the names of each kind of member of a class differ.
 fn have_names(class: &Class) -> bool
     ensures { result ≡ members_differ class.now }
 {
@@ -23,6 +24,7 @@ fn have_names(class: &Class) -> bool
         && methods_differ(class.methods.as_slice())
 }
 
+// Whether the names of fields differ.
 fn fields_differ(fields: &[Field]) -> bool
     ensures { result ≡ differ (λ f. f.name) fields.now }
 {
@@ -36,12 +38,14 @@ fn fields_differ(fields: &[Field]) -> bool
     true
 }
 
+// Whether a field has this name.
 fn is_field(fields: &[Field], name: &Name) -> bool
     ensures { result ≡ list_any (λ f. bytes_eq name.now f.name) fields.now }
 {
     fields.iter().any(|field| *name == field.name)
 }
 
+// Whether the names of lazy members differ.
 fn cells_differ(cells: &[Cell]) -> bool
     ensures { result ≡ differ (λ c. c.name) cells.now }
 {
@@ -55,12 +59,14 @@ fn cells_differ(cells: &[Cell]) -> bool
     true
 }
 
+// Whether a lazy member has this name.
 fn is_cell(cells: &[Cell], name: &Name) -> bool
     ensures { result ≡ list_any (λ c. bytes_eq name.now c.name) cells.now }
 {
     cells.iter().any(|cell| *name == cell.name)
 }
 
+// Whether the names of methods differ.
 fn methods_differ(methods: &[Method]) -> bool
     ensures { result ≡ differ (λ m. m.name) methods.now }
 {
@@ -74,6 +80,7 @@ fn methods_differ(methods: &[Method]) -> bool
     true
 }
 
+// Whether a method has this name.
 fn is_method(methods: &[Method], name: &Name) -> bool
     ensures { result ≡ list_any (λ m. bytes_eq name.now m.name) methods.now }
 {

@@ -29,6 +29,7 @@ fn methods_found(p: &Program, class: u32, number: u32) -> bool
     }
 }
 
+// Whether each method of a list is found by its name.
 fn each_found(p: &Program, class: u32, methods: &[Method]) -> bool
     ensures { result ≡ list_all (method_found p.now class) methods.now }
 {
@@ -50,6 +51,7 @@ pub(crate) fn supers_found(p: &Program, class: u32, linear: &[u32]) -> bool
         .all(|number| supers_found_of(p, class, *number))
 }
 
+// Whether the calls by `super` in this class find their methods.
 fn supers_found_of(p: &Program, class: u32, number: u32) -> bool
     ensures { IsTrue result ↔ HoldsOf p.now.classes (AllNodesOf (λ node. IsTrue (super_found p.now class node))) number }
 {
@@ -79,6 +81,7 @@ impl<'a> Rule for FoundSuper<'a> {
     }
 }
 
+// Whether what `super` means is found, in a call by `super`.
 fn call_found(p: &Program, class: u32, e: &Expr) -> bool
     ensures { result ≡ unwrap_or (option_map (λ s. is_some (super_find p.now class s.0 s.1)) (level_super (out-Expr e.now))) true }
 {

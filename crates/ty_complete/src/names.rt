@@ -16,6 +16,7 @@ pub fn names_fit(p: &Program) -> bool
     own_classes(p).iter().all(has_names)
 }
 
+// Whether the names of a class and of its members fit.
 fn has_names(class: &Class) -> bool
     ensures { IsTrue result ↔ HasNames class.now }
 {
@@ -26,24 +27,28 @@ fn has_names(class: &Class) -> bool
         && none_is_module(class.fields.as_slice())
 }
 
+// Whether the names of fields fit.
 fn fields_fit(fields: &[Field]) -> bool
     ensures { IsTrue result ↔ All (λ f. IsName 200 f.name) fields.now }
 {
     fields.iter().all(|field| is_name(200, &field.name))
 }
 
+// Whether the names of lazy members fit.
 fn cells_fit(cells: &[Cell]) -> bool
     ensures { IsTrue result ↔ All (λ c. IsName 200 c.name) cells.now }
 {
     cells.iter().all(|cell| is_name(200, &cell.name))
 }
 
+// Whether the names of methods fit.
 fn methods_fit(methods: &[Method]) -> bool
     ensures { IsTrue result ↔ All (λ m. IsName 200 m.name) methods.now }
 {
     methods.iter().all(|method| is_name(200, &method.name))
 }
 
+// Whether no field is called `MODULE$`.
 fn none_is_module(fields: &[Field]) -> bool
     ensures { IsTrue result ↔ All (λ f. f.name ≢ codes "MODULE$") fields.now }
 {
@@ -57,6 +62,7 @@ fn is_module(name: &Name) -> bool
     is_text(name, "MODULE$")
 }
 
+// Whether a name of at most so many characters fits.
 fn is_name(most: usize, name: &Name) -> bool
     ensures { IsTrue result ↔ IsName most name.now }
 {
@@ -72,6 +78,7 @@ fn characters(text: &str) -> usize
     text.chars().count()
 }
 
+// Whether all characters of a name are plain.
 fn are_plain(text: &str) -> bool
     ensures { IsTrue result ↔ All (λ character. IsTrue (is_plain character)) (chars text.now) }
 {

@@ -13,12 +13,14 @@ pub fn parameters_fit(p: &Program) -> bool
     p.classes.as_slice().iter().all(has_few)
 }
 
+// Whether the methods and the constructor of a class have few enough parameters.
 fn has_few(class: &Class) -> bool
     ensures { IsTrue result ↔ HasFewParameters class.now }
 {
     class.params.len() <= 121 && methods_have_few(class.methods.as_slice())
 }
 
+// Whether its methods have.
 fn methods_have_few(methods: &[Method]) -> bool
     ensures { IsTrue result ↔ All (λ m. length m.params ≤ 121) methods.now }
 {

@@ -19,6 +19,7 @@ pub fn parents_differ(p: &Program) -> bool
         .all(|class| all_apart(class.parents.as_slice()))
 }
 
+// Whether no two numbers are one.
 fn all_apart(numbers: &[u32]) -> bool
     ensures { IsTrue result ↔ AllPairs (λ one other. one ≢ other) numbers.now }
 {
@@ -30,6 +31,7 @@ fn all_apart(numbers: &[u32]) -> bool
     true
 }
 
+// Whether a number is none of some others.
 fn is_none_of(number: u32, others: &[u32]) -> bool
     ensures { IsTrue result ↔ All (λ other. number ≢ other) others.now }
 {
@@ -45,6 +47,7 @@ pub fn parents_fit(p: &Program) -> bool
     classes.iter().all(|class| fit(classes, class))
 }
 
+// Whether the parents of a class fit.
 fn fit(classes: &[Class], class: &Class) -> bool
     ensures { result ≡ parents_fit classes.now class.now }
 {
@@ -106,6 +109,7 @@ pub fn parents_are_no_objects(p: &Program) -> bool
         .all(|class| are_no_objects(classes, class.parents.as_slice()))
 }
 
+// Whether no parent is an object definition's class.
 fn are_no_objects(classes: &[Class], parents: &[u32]) -> bool
     ensures { result ≡ list_all (λ parent. not (is_object classes.now parent)) parents.now }
 {

@@ -18,6 +18,7 @@ pub fn prelude_is_closed(p: &Program) -> bool
     own_classes(p).iter().all(class_keeps_out)
 }
 
+// Whether no node of a class touches a field of the prelude.
 fn class_keeps_out(class: &Class) -> bool
     ensures { IsTrue result ↔ AllNodesOf (λ node. IsTrue (keeps_out node)) class.now }
 {

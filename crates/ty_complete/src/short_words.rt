@@ -18,6 +18,7 @@ pub fn words_fit(alloc: Global, p: &Program) -> Result<bool, NoMemory>
     Ok(all_fit(alloc, own_classes(p))?)
 }
 
+// Whether the words of all names of some classes are short.
 fn all_fit(alloc: Global, classes: &[Class]) -> Result<bool, AllocError>
     ensures { IfOk result (λ answer. answer ≡ list_all words_fit classes.now) }
 {
@@ -29,6 +30,7 @@ fn all_fit(alloc: Global, classes: &[Class]) -> Result<bool, AllocError>
     Ok(true)
 }
 
+// Whether those of a class and its members are.
 fn has_words(alloc: Global, class: &Class) -> Result<bool, AllocError>
     ensures { IfOk result (λ answer. answer ≡ words_fit class.now) }
 {
@@ -44,6 +46,7 @@ fn has_words(alloc: Global, class: &Class) -> Result<bool, AllocError>
     methods_fit(alloc, class.methods.as_slice())
 }
 
+// Whether those of fields are.
 fn fields_fit(alloc: Global, fields: &[Field]) -> Result<bool, AllocError>
     ensures { IfOk result (λ answer. answer ≡ list_all (λ f. has_short_words f.name) fields.now) }
 {
@@ -55,6 +58,7 @@ fn fields_fit(alloc: Global, fields: &[Field]) -> Result<bool, AllocError>
     Ok(true)
 }
 
+// Whether those of lazy members are.
 fn cells_fit(alloc: Global, cells: &[Cell]) -> Result<bool, AllocError>
     ensures { IfOk result (λ answer. answer ≡ list_all (λ c. has_short_words c.name) cells.now) }
 {
@@ -66,6 +70,7 @@ fn cells_fit(alloc: Global, cells: &[Cell]) -> Result<bool, AllocError>
     Ok(true)
 }
 
+// Whether those of methods are.
 fn methods_fit(alloc: Global, methods: &[Method]) -> Result<bool, AllocError>
     ensures { IfOk result (λ answer. answer ≡ list_all (λ m. has_short_words m.name) methods.now) }
 {
@@ -84,6 +89,7 @@ fn has_short_words(alloc: Global, name: &Name) -> Result<bool, AllocError>
     Ok(words_are_short(characters.as_slice()))
 }
 
+// Whether the words of a name are short.
 fn words_are_short(characters: &[char]) -> bool
     ensures { result ≡ has_short_words characters.now }
 {

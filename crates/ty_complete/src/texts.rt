@@ -32,6 +32,7 @@ impl Rule for FittingTexts {
     }
 }
 
+// Whether a text in an expression is short enough.
 fn expr_fits(e: &Expr) -> bool
     ensures { result ≡ level_text_fits (out-Expr e.now) }
 {
@@ -41,6 +42,7 @@ fn expr_fits(e: &Expr) -> bool
     }
 }
 
+// Whether a text has at most 10,000 characters.
 fn is_short(text: &Name) -> bool
     ensures { result ≡ nat_le (length text.now) 10000 }
 {

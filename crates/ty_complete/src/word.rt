@@ -46,6 +46,7 @@ pub(crate) fn characters(alloc: Global, text: &str) -> Result<Vec<char>, AllocEr
     text.chars().collect(alloc)
 }
 
+// The words of a name.
 fn words_of(alloc: Global, characters: &[char]) -> Result<Vec<Word>, AllocError>
     ensures { IfOk result (λ found. found.items ≡ words characters.now) }
 {
@@ -85,6 +86,7 @@ fn word_of(characters: &[char]) -> Word
     }
 }
 
+// Whether characters are this text.
 fn is_text(characters: &[char], text: &[char]) -> bool
     ensures { result ≡ bytes_eq characters.now text.now }
 {

@@ -1,5 +1,6 @@
-pub mod Carried
+-- What a reader must believe, in this order.
 pub mod Conforms
-pub mod Found
-pub mod Join
 pub mod Kinds
+pub mod Join
+pub mod Found
+pub mod Carried

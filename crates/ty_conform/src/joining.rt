@@ -1,26 +1,13 @@
-//! The type that two branches have together.
+//! The type that two branches have together, where neither conforms to the other.
 
 ghost use Rattle.std.specs.Prelude.{◌≡◌};
-ghost use Rattle.ty_conform.specs.Join.{join, wider, shared};
+ghost use Rattle.ty_conform.specs.Join.{wider, shared};
 
-use crate::conforming::conforms;
+use crate::conforms;
 use ty_prog::{Program, Ty};
 
-/// The type of a conditional with branches of two types, where none is wanted (SLS 6.16): the greater of the two,
-/// Long for Int and Long, AnyRef where both conform to it, else Any.
-pub fn join(p: &Program, one: &Ty, other: &Ty) -> Ty
-    ensures { result ≡ join p.now.classes one.now other.now }
-{
-    if conforms(p, one, other) {
-        *other
-    } else if conforms(p, other, one) {
-        *one
-    } else {
-        wider(p, one, other)
-    }
-}
-
-fn wider(p: &Program, one: &Ty, other: &Ty) -> Ty
+// Long for Int and Long, else what both conform to.
+pub(crate) fn wider(p: &Program, one: &Ty, other: &Ty) -> Ty
     ensures { result ≡ wider p.now.classes one.now other.now }
 {
     match *one {
@@ -36,6 +23,7 @@ fn wider(p: &Program, one: &Ty, other: &Ty) -> Ty
     }
 }
 
+// AnyRef where both conform to it, else Any.
 fn shared(p: &Program, one: &Ty, other: &Ty) -> Ty
     ensures { result ≡ shared p.now.classes one.now other.now }
 {

@@ -3,7 +3,7 @@
 ghost use Rattle.std.specs.Prelude.{◌≡◌};
 ghost use Rattle.ty_conform.specs.Kinds.{is_trait_kind, is_trait, is_object, superclass, superclass_of, is_superclass, reaches, is_known};
 
-use crate::conforming::inherits;
+use crate::inheriting::inherits;
 use sqlite_items::at;
 use ty_prog::{Class, Kind, Ty};
 

@@ -1,6 +1,6 @@
--- What a reader must believe.
-pub mod SetFirst
+-- What a reader must believe, in this order.
 pub mod Uses
+pub mod SetFirst
 -- For proofs only.
 pub mod Parts
 pub mod Settled

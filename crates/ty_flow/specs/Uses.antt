@@ -53,10 +53,11 @@ chosen condition one other = record {
   on_false = (condition.on_true || one.on_false) && (condition.on_false || other.on_false);
 }
 
--- one condition and another: `&&`, `||`
+-- a condition, and another where it is true: `&&`
 abbrev pub both : Passage → Passage → Passage
 both one other = chosen one other (literal false)
 
+-- a condition, and another where it is false: `||`
 abbrev pub one_of : Passage → Passage → Passage
 one_of one other = chosen one (literal true) other
 

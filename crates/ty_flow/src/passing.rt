@@ -29,6 +29,7 @@ pub fn passage(local: u32, root: Node<'_>) -> Passage
     }
 }
 
+// What a constructor does with the local.
 fn constructor_passage(local: u32, class: &Class) -> Passage
     ensures { result ≡ passage local (ConstructorTree class.now) }
 {
@@ -37,6 +38,7 @@ fn constructor_passage(local: u32, class: &Class) -> Passage
     two(args, body)
 }
 
+// What an expression does with it.
 #[cycle(passages)]
 fn expr_passage(local: u32, e: &Expr) -> Passage
     ensures { result ≡ expr_passage local e.now }
@@ -111,6 +113,7 @@ fn expr_passage(local: u32, e: &Expr) -> Passage
     }
 }
 
+// What an expression does with it, if there is one.
 #[cycle(passages)]
 fn optional(local: u32, e: &Option<Boxed<Expr>>) -> Option<Passage>
     ensures { result ≡ option_map (expr_passage local) e.now }
@@ -121,6 +124,7 @@ fn optional(local: u32, e: &Option<Boxed<Expr>>) -> Option<Passage>
     }
 }
 
+// What a handler does with it; where there is none, no way goes on.
 #[cycle(passages)]
 fn handled(local: u32, handler: &Option<Catch>) -> Passage
     ensures { result ≡ unwrap_or (option_map (handler_passage local) handler.now) leaves }
@@ -158,6 +162,7 @@ fn first_case(local: u32, cases: &[Case]) -> Passage
     passed.taken
 }
 
+// What a case does with it.
 #[cycle(passages)]
 fn case_passage(local: u32, c: &Case) -> CasePassage
     ensures { result ≡ case_passage local c.now }
@@ -171,6 +176,7 @@ fn case_passage(local: u32, c: &Case) -> CasePassage
     tested(guarded(pattern, guard), body)
 }
 
+// What a pattern does with it.
 #[cycle(passages)]
 fn pattern_passage(local: u32, p: &Pattern) -> Passage
     ensures { result ≡ pattern_passage local p.now }

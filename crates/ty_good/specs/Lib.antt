@@ -1,13 +1,13 @@
--- What a reader must believe.
-pub mod Accessors
+-- What a reader must believe, in this order.
 pub mod Each
-pub mod Forms
-pub mod Good
-pub mod LazyGets
-pub mod LazyMembers
-pub mod Modules
-pub mod Names
 pub mod Numbers
-pub mod Selection
-pub mod TraitFields
+pub mod Forms
+pub mod Names
 pub mod Traits
+pub mod Modules
+pub mod LazyGets
+pub mod TraitFields
+pub mod Accessors
+pub mod LazyMembers
+pub mod Selection
+pub mod Good

@@ -49,6 +49,7 @@ fn class_keeps(alloc: Global, p: &Program, number: u32, class: &Class) -> Result
     keeps_all(alloc, p, number, class.linear.as_slice())
 }
 
+// Whether a class keeps what reads and stores the fields of each trait of a list.
 fn keeps_all(alloc: Global, p: &Program, class: u32, linear: &[u32]) -> Result<bool, AllocError>
     ensures { IfOk result (λ answer. answer ≡ list_all (keeps_accessors p.now class) linear.now) }
 {
@@ -72,6 +73,7 @@ fn keeps_accessors(alloc: Global, p: &Program, class: u32, number: u32) -> Resul
     }
 }
 
+// Whether it keeps each of these methods.
 fn keeps_each(
     alloc: Global,
     p: &Program,

@@ -29,6 +29,7 @@ pub(crate) fn each_class<R: ClassRule>(
     each_of(alloc, rule, p.classes.as_slice())
 }
 
+// Whether a rule holds of each class, by its number.
 fn each_of<R: ClassRule>(alloc: Global, rule: &R, classes: &[Class]) -> Result<bool, NoMemory>
     ensures { IfOk result (λ answer. IsTrue answer ↔ EachClass (R.keeps rule.now) classes.now) }
 {

@@ -28,6 +28,7 @@ fn removed_by(node: Node<'_>) -> u32
     }
 }
 
+// The lowering that removes the form of an expression, counted from 1; 5 where none does.
 fn expr_removed_by(e: &Expr) -> u32
     ensures { result ≡ removed_by (ExprTree e.now) }
 {
@@ -57,6 +58,7 @@ fn made_by(node: Node<'_>) -> u32
     }
 }
 
+// The lowering that makes the form of an expression; 0 where it is no low form.
 fn expr_made_by(e: &Expr) -> u32
     ensures { result ≡ made_by (ExprTree e.now) }
 {
@@ -134,6 +136,7 @@ pub fn has_forms(k: u32, p: &Program) -> bool
     classes_may_stand(k, p.classes.as_slice()) && holds_in_program(&Standing { k }, p)
 }
 
+// Whether the kinds of some classes may stand after k lowerings.
 fn classes_may_stand(k: u32, classes: &[Class]) -> bool
     ensures { IsTrue result ↔ All (λ class. IsTrue (class_may_stand k class)) classes.now }
 {

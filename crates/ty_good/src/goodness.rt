@@ -1,72 +1,29 @@
-//! Whether a program is good.
+//! The parts of goodness, by what they look at.
 
 ghost use Rattle.std.specs.Prelude.{◌↔◌, IfOk, IsTrue};
 ghost use Rattle.ty_good.specs.Accessors.{AccessorsFound};
-ghost use Rattle.ty_good.specs.Forms.{HasForms};
-ghost use Rattle.ty_good.specs.Good.{GoodWith};
 ghost use Rattle.ty_good.specs.LazyGets.{LazyGetsStand};
 ghost use Rattle.ty_good.specs.LazyMembers.{CellsRead, LazyMembersFound};
 ghost use Rattle.ty_good.specs.Modules.{ModulesSet};
 ghost use Rattle.ty_good.specs.Names.{NamesMade};
 ghost use Rattle.ty_good.specs.Selection.{SelectsFound};
 ghost use Rattle.ty_good.specs.TraitFields.{TraitFieldsStand};
-ghost use Rattle.ty_good.specs.Traits.{MixinsFit, SupersStand, TraitsHaveRoom, TraitsLowered};
+ghost use Rattle.ty_good.specs.Traits.{MixinsFit, SupersStand, TraitsLowered};
 
 use crate::NoMemory;
 use crate::accessors::accessors_found;
-use crate::forms::has_forms;
 use crate::lazy_gets::lazy_gets_stand;
 use crate::lazy_members::{cells_read, lazy_members_found};
 use crate::modules::modules_set;
 use crate::names::names_made;
-use crate::numbers::numbers_in_range;
 use crate::selection::selects_found;
 use crate::trait_fields::trait_fields_stand;
-use crate::traits::{mixins_fit, supers_stand, traits_have_room, traits_lowered};
+use crate::traits::{mixins_fit, supers_stand, traits_lowered};
 use std::alloc::Global;
-use ty_complete::is_complete;
 use ty_prog::Program;
-use ty_typed::{ClassLocals, is_typed_with};
-
-/// Whether a program is good after k lowerings, k from 0 to 4, where the locals of its classes have these types. Errors:
-/// want of memory.
-pub fn is_good_with(
-    alloc: Global,
-    k: u32,
-    p: &Program,
-    locals: &[ClassLocals],
-) -> Result<bool, NoMemory>
-    ensures { IfOk result (λ answer. IsTrue answer ↔ GoodWith k p.now locals.now) }
-{
-    if !numbers_in_range(p) {
-        return Ok(false);
-    }
-    if !has_forms(k, p) {
-        return Ok(false);
-    }
-    if !traits_have_room(k, p) {
-        return Ok(false);
-    }
-    if !is_typed_with(p, locals)? {
-        return Ok(false);
-    }
-    if !is_complete(alloc, p)? {
-        return Ok(false);
-    }
-    if !members_fit(alloc, k, p)? {
-        return Ok(false);
-    }
-    if !lazy_members_fit(alloc, k, p)? {
-        return Ok(false);
-    }
-    if !accesses_fit(alloc, k, p)? {
-        return Ok(false);
-    }
-    traits_fit(alloc, k, p)
-}
 
 // What its names, modules and selected methods tell.
-fn members_fit(alloc: Global, k: u32, p: &Program) -> Result<bool, NoMemory>
+pub(crate) fn members_fit(alloc: Global, k: u32, p: &Program) -> Result<bool, NoMemory>
     ensures { IfOk result (λ answer. IsTrue answer ↔ (NamesMade k p.now × ModulesSet k p.now × SelectsFound k p.now)) }
 {
     if !names_made(alloc, k, p)? {
@@ -79,7 +36,7 @@ fn members_fit(alloc: Global, k: u32, p: &Program) -> Result<bool, NoMemory>
 }
 
 // Where its lazy members are read.
-fn lazy_members_fit(alloc: Global, k: u32, p: &Program) -> Result<bool, NoMemory>
+pub(crate) fn lazy_members_fit(alloc: Global, k: u32, p: &Program) -> Result<bool, NoMemory>
     ensures { IfOk result (λ answer. IsTrue answer ↔ (LazyGetsStand k p.now × CellsRead k p.now × LazyMembersFound k p.now)) }
 {
     if !lazy_gets_stand(alloc, k, p)? {
@@ -92,7 +49,7 @@ fn lazy_members_fit(alloc: Global, k: u32, p: &Program) -> Result<bool, NoMemory
 }
 
 // Where the fields of its traits are read and stored.
-fn accesses_fit(alloc: Global, k: u32, p: &Program) -> Result<bool, NoMemory>
+pub(crate) fn accesses_fit(alloc: Global, k: u32, p: &Program) -> Result<bool, NoMemory>
     ensures { IfOk result (λ answer. IsTrue answer ↔ (TraitFieldsStand k p.now × AccessorsFound k p.now)) }
 {
     if !trait_fields_stand(alloc, k, p)? {
@@ -102,7 +59,7 @@ fn accesses_fit(alloc: Global, k: u32, p: &Program) -> Result<bool, NoMemory>
 }
 
 // What its traits and mixins tell.
-fn traits_fit(alloc: Global, k: u32, p: &Program) -> Result<bool, NoMemory>
+pub(crate) fn traits_fit(alloc: Global, k: u32, p: &Program) -> Result<bool, NoMemory>
     ensures { IfOk result (λ answer. IsTrue answer ↔ (MixinsFit k p.now × SupersStand p.now × TraitsLowered k p.now)) }
 {
     if !mixins_fit(alloc, k, p)? {

@@ -48,12 +48,14 @@ fn class_gets_own(number: u32, class: &Class) -> bool
         && methods_get_own(number, cells, class.methods.as_slice())
 }
 
+// Whether a constructor reads none.
 fn constructor_gets_none(class: &Class) -> bool
     ensures { result ≡ nat_eq (lazy_gets (ConstructorTree class.now)) 0 }
 {
     lazy_gets(Node::Constructor(class)) == 0
 }
 
+// Whether no initialiser reads a lazy member.
 fn cells_get_none(cells: &[Cell]) -> bool
     ensures { result ≡ list_all (λ c. gets_none c.init) cells.now }
 {
@@ -66,6 +68,7 @@ fn gets_none(e: &Expr) -> bool
     lazy_gets(Node::Expr(e)) == 0
 }
 
+// Whether each method reads none, or is the one that reads the member of its name.
 fn methods_get_own(number: u32, cells: &[Cell], methods: &[Method]) -> bool
     ensures { result ≡ list_all (method_gets_own number cells.now) methods.now }
 {

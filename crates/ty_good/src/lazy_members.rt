@@ -67,6 +67,7 @@ impl ClassRule for Inherits<'_> {
     }
 }
 
+// Whether each lazy member of a class has the method that reads it.
 fn all_read(number: u32, class: &Class) -> bool
     ensures { result ≡ cells_read number class.now }
 {
@@ -109,6 +110,7 @@ fn class_inherits_lazy(p: &Program, number: u32, class: &Class) -> bool
     is_trait_kind(class.kind) || inherits_all(p, number, class.linear.as_slice())
 }
 
+// Whether a class keeps the lazy members of each class of a list.
 fn inherits_all(p: &Program, class: u32, linear: &[u32]) -> bool
     ensures { result ≡ list_all (inherits_lazy p.now class) linear.now }
 {
@@ -124,6 +126,7 @@ fn inherits_lazy(p: &Program, class: u32, number: u32) -> bool
     }
 }
 
+// Whether a class finds each method of another that reads a lazy member.
 fn all_inherited(p: &Program, class: u32, number: u32, above: &Class) -> bool
     ensures { result ≡ list_all (is_inherited p.now class number above.now) above.now.methods }
 {

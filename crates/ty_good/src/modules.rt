@@ -74,6 +74,7 @@ fn begins_with_module(number: u32, body: &[Expr]) -> bool
     }
 }
 
+// Whether an expression sets the module of this class to `this`.
 fn sets_this(number: u32, e: &Expr) -> bool
     ensures { result ≡ level_sets_this number (out-Expr e.now) }
 {
@@ -83,6 +84,7 @@ fn sets_this(number: u32, e: &Expr) -> bool
     }
 }
 
+// Whether no initialiser sets a module.
 fn cells_set_none(cells: &[Cell]) -> bool
     ensures { result ≡ list_all cell_sets_none cells.now }
 {
@@ -95,6 +97,7 @@ fn cell_sets_none(cell: &Cell) -> bool
     module_sets(Node::Expr(&cell.init)) == 0
 }
 
+// Whether no method does.
 fn methods_set_none(methods: &[Method]) -> bool
     ensures { result ≡ list_all method_sets_none methods.now }
 {

@@ -21,6 +21,7 @@ pub fn names_made(alloc: Global, k: u32, p: &Program) -> Result<bool, NoMemory>
     Ok(classes_named(alloc, k, p.classes.as_slice())?)
 }
 
+// Whether the names of some classes and of their members do.
 fn classes_named(alloc: Global, k: u32, classes: &[Class]) -> Result<bool, AllocError>
     ensures { IfOk result (λ answer. answer ≡ list_all (class_named k) classes.now) }
 {
@@ -32,6 +33,7 @@ fn classes_named(alloc: Global, k: u32, classes: &[Class]) -> Result<bool, Alloc
     Ok(true)
 }
 
+// Whether the names of a class and of its members do.
 fn class_named(alloc: Global, k: u32, class: &Class) -> Result<bool, AllocError>
     ensures { IfOk result (λ answer. answer ≡ class_named k class.now) }
 {
@@ -48,6 +50,7 @@ fn class_named(alloc: Global, k: u32, class: &Class) -> Result<bool, AllocError>
     methods_named(alloc, k, class.methods.as_slice())
 }
 
+// Whether the names of fields do.
 fn fields_named(alloc: Global, k: u32, fields: &[Field]) -> Result<bool, AllocError>
     ensures { IfOk result (λ answer. answer ≡ list_all (λ f. nat_le (field_name_made_by (words f.name)) k) fields.now) }
 {
@@ -60,6 +63,7 @@ fn fields_named(alloc: Global, k: u32, fields: &[Field]) -> Result<bool, AllocEr
     Ok(true)
 }
 
+// Whether the names of lazy members stand after k lowerings.
 fn cells_named(alloc: Global, k: u32, cells: &[Cell]) -> Result<bool, AllocError>
     ensures { IfOk result (λ answer. answer ≡ list_all (λ c. nat_le (cell_name_made_by (words c.name)) k) cells.now) }
 {
@@ -72,6 +76,7 @@ fn cells_named(alloc: Global, k: u32, cells: &[Cell]) -> Result<bool, AllocError
     Ok(true)
 }
 
+// Whether the names of methods do.
 fn methods_named(alloc: Global, k: u32, methods: &[Method]) -> Result<bool, AllocError>
     ensures { IfOk result (λ answer. answer ≡ list_all (method_named k) methods.now) }
 {
@@ -83,6 +88,7 @@ fn methods_named(alloc: Global, k: u32, methods: &[Method]) -> Result<bool, Allo
     Ok(true)
 }
 
+// Whether the name of a method does.
 fn method_named(alloc: Global, k: u32, method: &Method) -> Result<bool, AllocError>
     ensures { IfOk result (λ answer. answer ≡ method_named k method.now) }
 {

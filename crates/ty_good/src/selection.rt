@@ -32,6 +32,7 @@ pub fn selected(classes: &[Class], wanted: &Method, class: u32) -> Option<(u32, 
     }
 }
 
+// The method that is selected along a linearisation.
 fn selected_in(classes: &[Class], wanted: &Method, linear: &[u32]) -> Option<(u32, u32)>
     ensures { result ≡ option_or (inherited classes.now wanted.now linear.now) (otherwise classes.now wanted.now linear.now) }
 {
@@ -59,6 +60,7 @@ fn is_built_in(m: &Method) -> bool
     is_to_string(m) || is_equals(m)
 }
 
+// Whether a method is `toString` of AnyRef.
 fn is_to_string(m: &Method) -> bool
     ensures { result ≡ (bytes_eq m.now.name (codes "toString") && params_alike m.now.params [] && results_alike m.now.result ty.Text) }
 {
@@ -67,6 +69,7 @@ fn is_to_string(m: &Method) -> bool
         && results_alike(m.result, Ty::Text)
 }
 
+// Whether a method is `equals` of AnyRef.
 fn is_equals(m: &Method) -> bool
     ensures { result ≡ (bytes_eq m.now.name (codes "equals") && params_alike m.now.params (ty.Any ∷ []) && results_alike m.now.result ty.Boolean) }
 {
@@ -75,6 +78,7 @@ fn is_equals(m: &Method) -> bool
         && results_alike(m.result, Ty::Boolean)
 }
 
+// Whether a name is this text.
 fn is_called(name: &Name, text: &str) -> bool
     requires { IsTrue (list_all is_ascii text.now) }
     ensures { result ≡ bytes_eq name.now text.now }
@@ -94,6 +98,7 @@ fn inherited(classes: &[Class], wanted: &Method, linear: &[u32]) -> Option<(u32,
     None
 }
 
+// The member of this name and these parameters that a class declares, if it is no trait.
 fn declared_by_class(classes: &[Class], wanted: &Method, class: u32) -> Option<(u32, u32)>
     ensures { result ≡ (if is_trait classes.now class then None else declared_in classes.now wanted.now class) }
 {
@@ -117,6 +122,7 @@ fn declared_in(classes: &[Class], wanted: &Method, class: u32) -> Option<(u32, u
     }
 }
 
+// The first method of a list that is the wanted member.
 fn member_in(wanted: &Method, methods: &[Method]) -> Option<u32>
     ensures { result ≡ option_and_then number (position_from (is_same_member wanted.now) 0 methods.now) }
 {
@@ -224,6 +230,7 @@ fn default_of(classes: &[Class], wanted: &Method, all: &[u32], class: u32) -> Op
     }
 }
 
+// Whether a class of a list below declares the member again.
 fn is_declared_again(classes: &[Class], wanted: &Method, all: &[u32], class: u32) -> bool
     ensures { result ≡ list_any (declares_again classes.now wanted.now class) all.now }
 {
@@ -302,6 +309,7 @@ impl ClassRule for Selecting<'_> {
     }
 }
 
+// Whether a class selects, for each method of the classes of a list, the one that is found.
 fn selects_all(p: &Program, class: u32, linear: &[u32]) -> bool
     ensures { result ≡ list_all (selects_all_of p.now class) linear.now }
 {
@@ -317,6 +325,7 @@ fn selects_all_of(p: &Program, class: u32, above: u32) -> bool
     }
 }
 
+// Whether it does for each of these methods.
 fn selects_each(p: &Program, class: u32, methods: &[Method]) -> bool
     ensures { result ≡ list_all (selects_method p.now class) methods.now }
 {

@@ -67,18 +67,21 @@ fn parts_fit(classes: &[Class], number: u32, class: &Class) -> bool
         && cells_use_none(classes, class.cells.as_slice())
 }
 
+// Whether no expression of a list uses a field of a trait.
 fn use_none(classes: &[Class], list: &[Expr]) -> bool
     ensures { result ≡ list_all (uses_none classes.now) list.now }
 {
     list.iter().all(|e| uses_none(classes, e))
 }
 
+// Whether each statement defines a field of this class, or uses no field of a trait.
 fn all_define(classes: &[Class], number: u32, list: &[Expr]) -> bool
     ensures { result ≡ list_all (defines classes.now number) list.now }
 {
     list.iter().all(|e| defines(classes, number, e))
 }
 
+// Whether no initialiser uses a field of a trait.
 fn cells_use_none(classes: &[Class], cells: &[Cell]) -> bool
     ensures { result ≡ list_all (λ c. uses_none classes.now c.init) cells.now }
 {
@@ -92,6 +95,7 @@ fn defines(classes: &[Class], number: u32, e: &Expr) -> bool
     defines_field(classes, number, e) || uses_none(classes, e)
 }
 
+// Whether a statement stores into a field of `this` a value that uses no field of a trait.
 fn defines_field(classes: &[Class], number: u32, e: &Expr) -> bool
     ensures { result ≡ level_defines classes.now number (out-Expr e.now) }
 {
@@ -108,6 +112,7 @@ fn defines_field(classes: &[Class], number: u32, e: &Expr) -> bool
     }
 }
 
+// Whether each method uses none, or is the one that reads or stores the field of its name.
 fn methods_access(
     alloc: Global,
     classes: &[Class],
@@ -177,6 +182,7 @@ pub(crate) fn is_access(
     }
 }
 
+// Whether an expression reads the first local.
 fn is_first_local(e: &Expr) -> bool
     ensures { result ≡ level_is_local 0 (out-Expr e.now) }
 {
@@ -240,6 +246,7 @@ impl Measure for Uses<'_> {
     }
 }
 
+// 1 for a class that is a trait, else 0.
 fn of_trait(classes: &[Class], class: u32) -> u32
     ensures { result ≡ of_trait classes.now class }
 {

@@ -38,6 +38,7 @@ pub fn mixins_of(alloc: Global, classes: &[Class], class: &Class) -> Result<Vec<
     Ok(mixins)
 }
 
+// A list without its first item.
 fn behind_first(list: &[u32]) -> &[u32]
     ensures { result.now ≡ drop 1 list.now }
 {
@@ -66,18 +67,21 @@ pub fn mixins_fit(alloc: Global, k: u32, p: &Program) -> Result<bool, NoMemory>
     }
 }
 
+// Whether some classes mix in no trait.
 fn have_no_mixins(some: &[Class]) -> bool
     ensures { IsTrue result ↔ All (λ class. class.mixins ≡ []) some.now }
 {
     some.iter().all(has_no_mixins)
 }
 
+// Whether a class mixes in no trait.
 fn has_no_mixins(class: &Class) -> bool
     ensures { IsTrue result ↔ (class.now.mixins ≡ []) }
 {
     class.mixins.is_empty()
 }
 
+// Whether some classes mix in what they must.
 fn have_mixins(alloc: Global, classes: &[Class], some: &[Class]) -> Result<bool, NoMemory>
     ensures { IfOk result (λ answer. IsTrue answer ↔ All (λ class. class.mixins ≡ mixins_of classes.now class) some.now) }
 {
@@ -89,6 +93,7 @@ fn have_mixins(alloc: Global, classes: &[Class], some: &[Class]) -> Result<bool,
     Ok(true)
 }
 
+// Whether a class mixes in what it must.
 fn has_mixins(alloc: Global, classes: &[Class], class: &Class) -> Result<bool, NoMemory>
     ensures { IfOk result (λ answer. IsTrue answer ↔ (class.now.mixins ≡ mixins_of classes.now class.now)) }
 {
@@ -96,6 +101,7 @@ fn has_mixins(alloc: Global, classes: &[Class], class: &Class) -> Result<bool, N
     Ok(same_list(class.mixins.as_slice(), wanted.as_slice()))
 }
 
+// Whether two lists of numbers are one.
 fn same_list(ones: &[u32], others: &[u32]) -> bool
     ensures { IsTrue result ↔ (ones.now ≡ others.now) }
 {
@@ -151,18 +157,21 @@ pub fn traits_have_room(k: u32, p: &Program) -> bool
     k >= 2 || have_room(p.classes.as_slice())
 }
 
+// Whether the methods of traits have room for one more parameter.
 fn have_room(classes: &[Class]) -> bool
     ensures { IsTrue result ↔ All (λ class. IsTrue (has_room class)) classes.now }
 {
     classes.iter().all(has_room)
 }
 
+// Whether those of a class have, if it is a trait.
 fn has_room(class: &Class) -> bool
     ensures { result ≡ has_room class.now }
 {
     !is_trait_kind(class.kind) || have_few(class.methods.as_slice())
 }
 
+// Whether methods have few enough parameters for one more.
 fn have_few(methods: &[Method]) -> bool
     ensures { result ≡ list_all (λ m. nat_le (length m.params) 120) methods.now }
 {
@@ -218,6 +227,7 @@ fn is_bare(class: &Class) -> bool
         && class.body.is_empty()
 }
 
+// Whether some methods of a trait are lowered.
 fn methods_lowered(
     alloc: Global,
     number: u32,
@@ -234,6 +244,7 @@ fn methods_lowered(
     Ok(true)
 }
 
+// Whether a method of a trait is.
 fn method_lowered(
     alloc: Global,
     number: u32,
@@ -267,6 +278,7 @@ fn forwards(number: u32, methods: &[Method], name: &Name, count: usize, body: &E
     }
 }
 
+// Whether the method with this number has this name.
 fn is_named(methods: &[Method], method: u32, name: &Name) -> bool
     ensures { result ≡ unwrap_or (option_map (λ m. bytes_eq m.name name.now) (slice_get methods.now method)) false }
 {
@@ -299,6 +311,7 @@ fn are_locals(args: &[Expr]) -> bool
     true
 }
 
+// Whether an expression reads this local.
 fn is_local(number: usize, e: &Expr) -> bool
     ensures { result ≡ level_is_local number (out-Expr e.now) }
 {

@@ -12,12 +12,12 @@ use Rattle.ty_linear.proofs.Ancestors.{ancestor_chain}
 use Rattle.ty_linear.proofs.Gathered.{is_in-gathered, gathered_behind, Distinct-gathered}
 use Rattle.ty_linear.proofs.Within.{Within, ancestor_within}
 
--- the found classes are ancestors; the parents of the class and of those before the place are there
-pub record IsSearched (parents : List (List ℕ)) (class : ℕ) (found : List ℕ) (place : ℕ) : Type 0 where
+-- the found classes are ancestors; the parents of the class and of those before this number are there
+pub record IsSearched (parents : List (List ℕ)) (class : ℕ) (found : List ℕ) (number : ℕ) : Type 0 where
   pub above : (x : ℕ) → In found x → IsAncestor parents x class
   pub distinct : Distinct found
   pub start : (p : ℕ) → Contains (parents_of parents class) p → In found p
-  pub closed : (k p : ℕ) → k < place → Contains (parents_of parents (get_or found k 0)) p → In found p
+  pub closed : (k p : ℕ) → k < number → Contains (parents_of parents (get_or found k 0)) p → In found p
 
 -- what was there stays, and the new parents come
 stays : (found ys : List ℕ) (x : ℕ) → In found x → In (gathered found ys) x
@@ -47,54 +47,54 @@ search_start parents class found is =
     } in
     rw is made
 
-pub search_more : (parents : List (List ℕ)) (class : ℕ) (found next : List ℕ) (place : ℕ) → IsSearched parents class found place → place < length found
-    → next ≡ gathered found (reverse (parents_of parents (get_or found place 0))) → IsSearched parents class next (place + 1)
-search_more parents class found next place so_far here is =
-    let at = get_or found place 0 in
+pub search_more : (parents : List (List ℕ)) (class : ℕ) (found next : List ℕ) (number : ℕ) → IsSearched parents class found number → number < length found
+    → next ≡ gathered found (reverse (parents_of parents (get_or found number 0))) → IsSearched parents class next (number + 1)
+search_more parents class found next number so_far here is =
+    let at = get_or found number 0 in
     let ps = parents_of parents at in
     let behind = gathered_behind found (reverse ps) in
-    let up : IsAncestor parents at class = so_far.above at (In-from_Contains found at (Contains-get_or found place 0 here)) in
+    let up : IsAncestor parents at class = so_far.above at (In-from_Contains found at (Contains-get_or found number 0 here)) in
     let same : (k : ℕ) → k < length found → get_or (gathered found (reverse ps)) k 0 ≡ get_or found k 0 =
     λ k h. ap (λ (l : List ℕ). get_or l k 0) behind.1 ∙ get_or_append_left found behind.0 0 k h in
-    let made : IsSearched parents class (gathered found (reverse ps)) (place + 1) = record {
+    let made : IsSearched parents class (gathered found (reverse ps)) (number + 1) = record {
       above = λ x h. elim (there found ps x h) [ inl e ↦ so_far.above x e | inr has ↦ ancestor_chain parents x at class (parent x at has) up ];
       distinct = Distinct-gathered found (reverse ps) so_far.distinct;
       start = λ p has. stays found (reverse ps) p (so_far.start p has);
       closed = λ k p h has.
           let old : k < length found = omega (arith, h, here) in
           let has' : Contains (parents_of parents (get_or found k 0)) p = subst (λ (y : ℕ). Contains (parents_of parents y) p) (same k old) has in
-          elim (cases_lt k place) [
+          elim (cases_lt k number) [
             | inl lower ↦ stays found (reverse ps) p (so_far.closed k p lower has')
-            | inr above ↦ (let e : k ≡ place = omega (arith, h, above) in
+            | inr above ↦ (let e : k ≡ number = omega (arith, h, above) in
                 comes found ps p (subst (λ (y : ℕ). Contains (parents_of parents (get_or found y 0)) p) e has'))
           ];
     } in
     rw is made
 
-found_parent : (parents : List (List ℕ)) (class : ℕ) (found : List ℕ) (place : ℕ) → IsSearched parents class found place → length found ≤ place
+found_parent : (parents : List (List ℕ)) (class : ℕ) (found : List ℕ) (number : ℕ) → IsSearched parents class found number → length found ≤ number
     → (p c : ℕ) → (c ≡ class) ⊎ In found c → Contains (parents_of parents c) p → In found p
-found_parent parents class found place all out p c (inl e) has =
+found_parent parents class found number all out p c (inl e) has =
     all.start p (subst (λ (y : ℕ). Contains (parents_of parents y) p) e has)
-found_parent parents class found place all out p c (inr h) has =
+found_parent parents class found number all out p c (inr h) has =
     let at = Contains-from_In found c h in
     let e : get_or found at.0 0 ≡ c = get_or_default found at.0 0 c at.1 ∙ at.2 in
     all.closed at.0 p (omega (arith, at.1, out)) (subst (λ (y : ℕ). Contains (parents_of parents y) p) (sym e) has)
 
 -- nothing is left: each ancestor is there
-pub search_all : (parents : List (List ℕ)) (class : ℕ) (found : List ℕ) (place : ℕ) → IsSearched parents class found place → length found ≤ place
+pub search_all : (parents : List (List ℕ)) (class : ℕ) (found : List ℕ) (number : ℕ) → IsSearched parents class found number → length found ≤ number
     → (x c : ℕ) → (c ≡ class) ⊎ In found c → IsAncestor parents x c → In found x
-search_all parents class found place all out x c from (parent _ _ has) = found_parent parents class found place all out x c from has
-search_all parents class found place all out x c from (beyond _ middle _ has rest) =
-    search_all parents class found place all out x middle (inr (found_parent parents class found place all out middle c from has)) rest
+search_all parents class found number all out x c from (parent _ _ has) = found_parent parents class found number all out x c from has
+search_all parents class found number all out x c from (beyond _ middle _ has rest) =
+    search_all parents class found number all out x middle (inr (found_parent parents class found number all out middle c from has)) rest
 
 -- no more are found than there are classes
-pub search_short : (parents : List (List ℕ)) → Within parents → (class : ℕ) (found : List ℕ) (place : ℕ) → IsSearched parents class found place
+pub search_short : (parents : List (List ℕ)) → Within parents → (class : ℕ) (found : List ℕ) (number : ℕ) → IsSearched parents class found number
     → length found ≤ length parents
-search_short parents within class found place so_far =
+search_short parents within class found number so_far =
     length-le_from_distinct_below found (length parents) so_far.distinct (λ q h. ancestor_within parents within q class (so_far.above q h))
 
-pub search_within : (parents : List (List ℕ)) → Within parents → (class : ℕ) (found : List ℕ) (place : ℕ) → IsSearched parents class found place
-    → place < length found → get_or found place 0 < length parents
-search_within parents within class found place so_far here =
-    let at = get_or found place 0 in
-    ancestor_within parents within at class (so_far.above at (In-from_Contains found at (Contains-get_or found place 0 here)))
+pub search_within : (parents : List (List ℕ)) → Within parents → (class : ℕ) (found : List ℕ) (number : ℕ) → IsSearched parents class found number
+    → number < length found → get_or found number 0 < length parents
+search_within parents within class found number so_far here =
+    let at = get_or found number 0 in
+    ancestor_within parents within at class (so_far.above at (In-from_Contains found at (Contains-get_or found number 0 here)))

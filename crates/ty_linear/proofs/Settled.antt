@@ -15,69 +15,69 @@ use Rattle.ty_linear.proofs.Gathered.{other}
 use Rattle.ty_linear.proofs.Counts.{AreFewer, one_if, one_same}
 use Rattle.ty_linear.proofs.Tables.{row_read}
 
--- how many of the classes are not among the placed ones
-abbrev pub unplaced : List ℕ → List ℕ → ℕ
-unplaced placed ps = count_by (λ p. not (is_in placed p)) ps
+-- how many of the classes are not in the order
+abbrev pub unordered : List ℕ → List ℕ → ℕ
+unordered ordered ps = count_by (λ p. not (is_in ordered p)) ps
 
-abbrev one_unplaced : List ℕ → ℕ → ℕ
-one_unplaced placed p = cond (not (is_in placed p)) 1 0
+abbrev one_unordered : List ℕ → ℕ → ℕ
+one_unordered ordered p = cond (not (is_in ordered p)) 1 0
 
-unplaced-cons : (placed : List ℕ) (p : ℕ) (ps : List ℕ) → unplaced placed (p ∷ ps) ≡ one_unplaced placed p + unplaced placed ps
-unplaced-cons placed p ps = sum_by-cons (one_unplaced placed) p ps
+unordered-cons : (ordered : List ℕ) (p : ℕ) (ps : List ℕ) → unordered ordered (p ∷ ps) ≡ one_unordered ordered p + unordered ordered ps
+unordered-cons ordered p ps = sum_by-cons (one_unordered ordered) p ps
 
-one_there : (placed : List ℕ) (p : ℕ) → is_in placed p ≡ true → one_unplaced placed p ≡ 0
-one_there placed p e = ap (λ b. cond (not b) 1 0) e
+one_there : (ordered : List ℕ) (p : ℕ) → is_in ordered p ≡ true → one_unordered ordered p ≡ 0
+one_there ordered p e = ap (λ b. cond (not b) 1 0) e
 
-one_missing : (placed : List ℕ) (p : ℕ) → is_in placed p ≡ false → one_unplaced placed p ≡ 1
-one_missing placed p e = ap (λ b. cond (not b) 1 0) e
+one_missing : (ordered : List ℕ) (p : ℕ) → is_in ordered p ≡ false → one_unordered ordered p ≡ 1
+one_missing ordered p e = ap (λ b. cond (not b) 1 0) e
 
-unplaced-none : (ps : List ℕ) → unplaced [] ps ≡ length ps
-unplaced-none [] = refl
-unplaced-none (p ∷ ps) =
-    let a = unplaced-cons [] p ps in
+unordered-none : (ps : List ℕ) → unordered [] ps ≡ length ps
+unordered-none [] = refl
+unordered-none (p ∷ ps) =
+    let a = unordered-cons [] p ps in
     let b = one_missing [] p refl in
-    let c = unplaced-none ps in
+    let c = unordered-none ps in
     omega (arith, a, b, c)
 
-unplaced-push : (placed : List ℕ) (x : ℕ) (ps : List ℕ) → is_in placed x ≡ false → unplaced placed ps ≡ unplaced (placed ++ x ∷ []) ps + count_of ps x
-unplaced-push placed x [] e = refl
-unplaced-push placed x (p ∷ ps) e =
-    let a = unplaced-cons placed p ps in
-    let b = unplaced-cons (placed ++ x ∷ []) p ps in
+unordered-push : (ordered : List ℕ) (x : ℕ) (ps : List ℕ) → is_in ordered x ≡ false → unordered ordered ps ≡ unordered (ordered ++ x ∷ []) ps + count_of ps x
+unordered-push ordered x [] e = refl
+unordered-push ordered x (p ∷ ps) e =
+    let a = unordered-cons ordered p ps in
+    let b = unordered-cons (ordered ++ x ∷ []) p ps in
     let c = sum_by-cons (one_if x) p ps in
-    let d = unplaced-push placed x ps e in
+    let d = unordered-push ordered x ps e in
     elim (cases_eq p x) [
       | inl s ↦ (
-          let f = one_missing placed p (ap (is_in placed) s ∙ e) in
-          let g = one_there (placed ++ x ∷ []) p (is_in-append placed (x ∷ []) p ∙ or_right (is_in placed p) (is_in (x ∷ []) p) (ap (λ t. t || false) (eq-eqb p x s))) in
+          let f = one_missing ordered p (ap (is_in ordered) s ∙ e) in
+          let g = one_there (ordered ++ x ∷ []) p (is_in-append ordered (x ∷ []) p ∙ or_right (is_in ordered p) (is_in (x ∷ []) p) (ap (λ t. t || false) (eq-eqb p x s))) in
           let h : one_if x p ≡ 1 = ap (λ t. cond t 1 0) (eq-eqb x p (sym s)) in
           omega (arith, a, b, c, d, f, g, h))
       | inr n ↦ (
-          let f : one_unplaced (placed ++ x ∷ []) p ≡ one_unplaced placed p =
-          ap (λ t. cond (not t) 1 0) (is_in-append placed (x ∷ []) p ∙ other (is_in placed p) (eqb p x) (ne_eqb p x n)) in
+          let f : one_unordered (ordered ++ x ∷ []) p ≡ one_unordered ordered p =
+          ap (λ t. cond (not t) 1 0) (is_in-append ordered (x ∷ []) p ∙ other (is_in ordered p) (eqb p x) (ne_eqb p x n)) in
           let h : one_if x p ≡ 0 = ap (λ t. cond t 1 0) (ne_eqb x p (λ s. n (sym s))) in
           omega (arith, a, b, c, d, f, h))
     ]
 
-unplaced_zero : (placed ps : List ℕ) → unplaced placed ps ≡ 0 → All (λ p. is_in placed p ≡ true) ps
-unplaced_zero placed [] e = All-nil (λ p. is_in placed p ≡ true)
-unplaced_zero placed (p ∷ ps) e =
-    let a = unplaced-cons placed p ps in
-    elim (cases_Bool (is_in placed p)) [
+unordered_zero : (ordered ps : List ℕ) → unordered ordered ps ≡ 0 → All (λ p. is_in ordered p ≡ true) ps
+unordered_zero ordered [] e = All-nil (λ p. is_in ordered p ≡ true)
+unordered_zero ordered (p ∷ ps) e =
+    let a = unordered-cons ordered p ps in
+    elim (cases_Bool (is_in ordered p)) [
       | inl t ↦ (
-          let b = one_there placed p t in
-          All-cons (λ q. is_in placed q ≡ true) p ps t (unplaced_zero placed ps (omega (arith, a, b, e))))
-      | inr t ↦ (let b = one_missing placed p t in absurd (omega (arith, a, b, e)))
+          let b = one_there ordered p t in
+          All-cons (λ q. is_in ordered q ≡ true) p ps t (unordered_zero ordered ps (omega (arith, a, b, e))))
+      | inr t ↦ (let b = one_missing ordered p t in absurd (omega (arith, a, b, e)))
     ]
 
-unplaced_some : (placed ps : List ℕ) → unplaced placed ps ≢ 0 → (p : ℕ) × In ps p × (is_in placed p ≡ false)
-unplaced_some placed [] n = absurd (n refl)
-unplaced_some placed (p ∷ ps) n =
-    let a = unplaced-cons placed p ps in
-    elim (cases_Bool (is_in placed p)) [
+unordered_some : (ordered ps : List ℕ) → unordered ordered ps ≢ 0 → (p : ℕ) × In ps p × (is_in ordered p ≡ false)
+unordered_some ordered [] n = absurd (n refl)
+unordered_some ordered (p ∷ ps) n =
+    let a = unordered-cons ordered p ps in
+    elim (cases_Bool (is_in ordered p)) [
       | inl t ↦ (
-          let b = one_there placed p t in
-          let rest = unplaced_some placed ps (λ e. n (a ∙ (omega (arith, b, e)))) in
+          let b = one_there ordered p t in
+          let rest = unordered_some ordered ps (λ e. n (a ∙ (omega (arith, b, e)))) in
           (rest.0, In-later p ps rest.0 rest.1, rest.2))
       | inr t ↦ (p, In-first p ps, t)
     ]
@@ -98,48 +98,48 @@ not_before xs k distinct here = is_in-missing (take k xs) (get_or xs k 0) (λ h.
     get_or_default xs at.0 0 (get_or xs k 0) (omega (arith, low, here)) ∙ sym (get_or-take k xs at.0 (get_or xs k 0) low) ∙ at.2 in
     both_ways (eqb (get_or xs at.0 0) (get_or xs k 0)) (apart_from_distinct eqb xs at.0 k 0 distinct low here) (eq-eqb (get_or xs at.0 0) (get_or xs k 0) same))
 
--- the counts are of the parents behind the place; each class of the order stands behind its parents
-pub record IsSettled (parents : List (List ℕ)) (waiting order : List ℕ) (place : ℕ) : Type 0 where
+-- the counts are of the parents that the order has not before this number; each class of the order stands behind its parents
+pub record IsSettled (parents : List (List ℕ)) (waiting order : List ℕ) (number : ℕ) : Type 0 where
   pub long : length waiting ≡ length parents
   pub ready : IsReady waiting order
-  pub waits : (class : ℕ) → class < length waiting → get_or waiting class 0 ≡ unplaced (take place order) (parents_of parents class)
+  pub waits : (class : ℕ) → class < length waiting → get_or waiting class 0 ≡ unordered (take number order) (parents_of parents class)
   pub behind : (k : ℕ) → k < length order → All (λ p. is_in (take k order) p ≡ true) (parents_of parents (get_or order k 0))
 
 -- the parents of a class that waits for none
-parents_placed : (parents : List (List ℕ)) (waiting order : List ℕ) (place k : ℕ) → IsReady waiting order
-    → ((class : ℕ) → class < length waiting → get_or waiting class 0 ≡ unplaced (take place order) (parents_of parents class))
-    → k < length order → place ≤ k → All (λ p. is_in (take k order) p ≡ true) (parents_of parents (get_or order k 0))
-parents_placed parents waiting order place k ready waits here later =
+parents_ordered : (parents : List (List ℕ)) (waiting order : List ℕ) (number k : ℕ) → IsReady waiting order
+    → ((class : ℕ) → class < length waiting → get_or waiting class 0 ≡ unordered (take number order) (parents_of parents class))
+    → k < length order → number ≤ k → All (λ p. is_in (take k order) p ≡ true) (parents_of parents (get_or order k 0))
+parents_ordered parents waiting order number k ready waits here later =
     let x = get_or order k 0 in
     let low : x < length waiting = ready.within k 0 here in
     let there : is_in order x ≡ true = In-from_Contains order x (Contains-get_or order k 0 here) in
     let zero : get_or waiting x 0 ≡ 0 = eqb-true (get_or waiting x 0) 0 (sym (ready.each x low) ∙ there) in
-    All-weaker (λ p. is_in (take place order) p ≡ true) (λ p. is_in (take k order) p ≡ true) (λ p h. in_front order place k p later h)
-    (parents_of parents x) (unplaced_zero (take place order) (parents_of parents x) (sym (waits x low) ∙ zero))
+    All-weaker (λ p. is_in (take number order) p ≡ true) (λ p. is_in (take k order) p ≡ true) (λ p h. in_front order number k p later h)
+    (parents_of parents x) (unordered_zero (take number order) (parents_of parents x) (sym (waits x low) ∙ zero))
 
 pub settled_start : (parents : List (List ℕ)) (waiting order : List ℕ) → waiting ≡ map (λ (ps : List ℕ). length ps) parents → length waiting ≡ length parents
     → IsReady waiting order → IsSettled parents waiting order 0
 settled_start parents waiting order are long ready =
-    let waits : (class : ℕ) → class < length waiting → get_or waiting class 0 ≡ unplaced (take 0 order) (parents_of parents class) = λ class h.
+    let waits : (class : ℕ) → class < length waiting → get_or waiting class 0 ≡ unordered (take 0 order) (parents_of parents class) = λ class h.
     ap (λ (l : List ℕ). get_or l class 0) are ∙ get_or-map (λ (ps : List ℕ). length ps) parents class [] 0 (omega (arith, h, long))
-    ∙ sym (unplaced-none (parents_of parents class)) in
-    record { long = long; ready = ready; waits = waits; behind = λ k h. parents_placed parents waiting order 0 k ready waits h (omega arith) }
+    ∙ sym (unordered-none (parents_of parents class)) in
+    record { long = long; ready = ready; waits = waits; behind = λ k h. parents_ordered parents waiting order 0 k ready waits h (omega arith) }
 
-pub settled_more : (parents : List (List ℕ)) (waiting order waiting' order' more classes : List ℕ) (place : ℕ) → IsSettled parents waiting order place → place < length order
-    → ((class : ℕ) → count_of classes class ≡ count_of (parents_of parents class) (get_or order place 0))
+pub settled_more : (parents : List (List ℕ)) (waiting order waiting' order' more classes : List ℕ) (number : ℕ) → IsSettled parents waiting order number → number < length order
+    → ((class : ℕ) → count_of classes class ≡ count_of (parents_of parents class) (get_or order number 0))
     → AreFewer waiting waiting' classes → IsReady waiting' order' → order' ≡ order ++ more → length waiting' ≡ length waiting
-    → IsSettled parents waiting' order' (place + 1)
-settled_more parents waiting order waiting' order' more classes place so_far here are fewer ready behind same =
-    let x = get_or order place 0 in
+    → IsSettled parents waiting' order' (number + 1)
+settled_more parents waiting order waiting' order' more classes number so_far here are fewer ready behind same =
+    let x = get_or order number 0 in
     let front : (k : ℕ) → k ≤ length order → take k order' ≡ take k order = λ k h. ap (take k) behind ∙ take-append-le k order more h in
-    let placed : take (place + 1) order' ≡ take place order ++ x ∷ [] = front (place + 1) (omega (arith, here)) ∙ take_more order place 0 here in
-    let waits : (class : ℕ) → class < length waiting' → get_or waiting' class 0 ≡ unplaced (take (place + 1) order') (parents_of parents class) = λ class h.
+    let ordered : take (number + 1) order' ≡ take number order ++ x ∷ [] = front (number + 1) (omega (arith, here)) ∙ take_more order number 0 here in
+    let waits : (class : ℕ) → class < length waiting' → get_or waiting' class 0 ≡ unordered (take (number + 1) order') (parents_of parents class) = λ class h.
     let low : class < length waiting = omega (arith, h, same) in
     let a = fewer class low in
     let b = so_far.waits class low in
     let c = are class in
-    let d = unplaced-push (take place order) x (parents_of parents class) (not_before order place so_far.ready.distinct here) in
-    let e = ap (λ (l : List ℕ). unplaced l (parents_of parents class)) placed in
+    let d = unordered-push (take number order) x (parents_of parents class) (not_before order number so_far.ready.distinct here) in
+    let e = ap (λ (l : List ℕ). unordered l (parents_of parents class)) ordered in
     omega (arith, a, b, c, d, e) in
     record {
       long = same ∙ so_far.long;
@@ -149,46 +149,46 @@ settled_more parents waiting order waiting' order' more classes place so_far her
         | inl old ↦ (
             let at : get_or order' k 0 ≡ get_or order k 0 = ap (λ (l : List ℕ). get_or l k 0) behind ∙ get_or_append_left order more 0 k old in
             rw (at, front k (omega (arith, old))) (so_far.behind k old))
-        | inr new ↦ parents_placed parents waiting' order' (place + 1) k ready waits h (omega (arith, new, here))
+        | inr new ↦ parents_ordered parents waiting' order' (number + 1) k ready waits h (omega (arith, new, here))
       ];
     }
 
 -- the next class and its children
-pub settled_enough : (parents : List (List ℕ)) (waiting order classes : List ℕ) (place : ℕ) → IsSettled parents waiting order place → place < length order
-    → ((class : ℕ) → count_of classes class ≡ count_of (parents_of parents class) (get_or order place 0))
+pub settled_enough : (parents : List (List ℕ)) (waiting order classes : List ℕ) (number : ℕ) → IsSettled parents waiting order number → number < length order
+    → ((class : ℕ) → count_of classes class ≡ count_of (parents_of parents class) (get_or order number 0))
     → (class : ℕ) → class < length waiting → count_of classes class ≤ get_or waiting class 0
-settled_enough parents waiting order classes place so_far here are class low =
+settled_enough parents waiting order classes number so_far here are class low =
     let a = so_far.waits class low in
     let b = are class in
-    let c = unplaced-push (take place order) (get_or order place 0) (parents_of parents class) (not_before order place so_far.ready.distinct here) in
+    let c = unordered-push (take number order) (get_or order number 0) (parents_of parents class) (not_before order number so_far.ready.distinct here) in
     omega (arith, a, b, c)
 
-pub settled_short : (parents : List (List ℕ)) (waiting order : List ℕ) (place : ℕ) → IsSettled parents waiting order place → length order ≤ length parents
-settled_short parents waiting order place so_far =
+pub settled_short : (parents : List (List ℕ)) (waiting order : List ℕ) (number : ℕ) → IsSettled parents waiting order number → length order ≤ length parents
+settled_short parents waiting order number so_far =
     length-le_from_distinct_below order (length parents) so_far.ready.distinct
     (λ q h. let low = All-contains (λ c. c < length waiting) order q so_far.ready.within (Contains-from_In order q h) in
     omega (arith, low, so_far.long))
 
-pub settled_order : (parents : List (List ℕ)) (waiting order : List ℕ) (place : ℕ) → IsSettled parents waiting order place → IsOrder parents order
-settled_order parents waiting order place so_far = record {
+pub settled_order : (parents : List (List ℕ)) (waiting order : List ℕ) (number : ℕ) → IsSettled parents waiting order number → IsOrder parents order
+settled_order parents waiting order number so_far = record {
   within = λ k d h. let low = so_far.ready.within k d h in omega (arith, low, so_far.long);
   behind = so_far.behind;
 }
 
-pub settled_left : (parents : List (List ℕ)) (waiting order : List ℕ) (place : ℕ) → length order ≤ place → IsSettled parents waiting order place → AreLeft parents order
-settled_left parents waiting order place out so_far class low missing =
+pub settled_left : (parents : List (List ℕ)) (waiting order : List ℕ) (number : ℕ) → length order ≤ number → IsSettled parents waiting order number → AreLeft parents order
+settled_left parents waiting order number out so_far class low missing =
     let here : class < length waiting = omega (arith, low, so_far.long) in
-    let all : take place order ≡ order = take_all place order out in
+    let all : take number order ≡ order = take_all number order out in
     let waits : get_or waiting class 0 ≢ 0 = eqb-false (get_or waiting class 0) 0 (sym (so_far.ready.each class here) ∙ missing) in
-    let left = unplaced_some order (parents_of parents class) (λ e. waits (so_far.waits class here ∙ ap (λ (l : List ℕ). unplaced l (parents_of parents class)) all ∙ e)) in
+    let left = unordered_some order (parents_of parents class) (λ e. waits (so_far.waits class here ∙ ap (λ (l : List ℕ). unordered l (parents_of parents class)) all ∙ e)) in
     (left.0, Contains-from_In (parents_of parents class) left.0 left.1, left.2)
 
 -- the children that are read for the next class
-pub read_children : (parents : List (List ℕ)) (table : List (Vec ℕ Global)) (order list : List ℕ) (place x : ℕ) (row : Vec ℕ Global)
+pub read_children : (parents : List (List ℕ)) (table : List (Vec ℕ Global)) (order list : List ℕ) (number x : ℕ) (row : Vec ℕ Global)
     → ((p child : ℕ) → count_of (get_or (rows table) p []) child ≡ count_of (parents_of parents child) p)
-    → x ≡ get_or order place 0 → x < length table → row ≡ get_or table x row → list ≡ row.items
-    → (class : ℕ) → count_of list class ≡ count_of (parents_of parents class) (get_or order place 0)
-read_children parents table order list place x row each at low is same class =
+    → x ≡ get_or order number 0 → x < length table → row ≡ get_or table x row → list ≡ row.items
+    → (class : ℕ) → count_of list class ≡ count_of (parents_of parents class) (get_or order number 0)
+read_children parents table order list number x row each at low is same class =
     ap (λ (l : List ℕ). count_of l class) (same ∙ sym (row_read table x row low is)) ∙ each x class
     ∙ ap (λ (y : ℕ). count_of (parents_of parents class) y) at
 

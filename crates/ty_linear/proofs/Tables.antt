@@ -62,22 +62,22 @@ Have-set parents table class x row here is was =
       ]
     ]
 
-pub Have-more : (parents : List (List ℕ)) (table : List (Vec ℕ Global)) (order : List ℕ) (place : ℕ) (row : Vec ℕ Global) → place < length order
-    → get_or order place 0 < length table → IsLinearisation parents (get_or order place 0) row.items → Have parents table (take place order)
-    → Have parents (set table (get_or order place 0) row) (take (place + 1) order)
-Have-more parents table order place row here within is have =
-    let class = get_or order place 0 in
-    All-more (λ (x : ℕ). IsLinearisation parents x (get_or (rows (set table class row)) x [])) order place 0 here
+pub Have-more : (parents : List (List ℕ)) (table : List (Vec ℕ Global)) (order : List ℕ) (number : ℕ) (row : Vec ℕ Global) → number < length order
+    → get_or order number 0 < length table → IsLinearisation parents (get_or order number 0) row.items → Have parents table (take number order)
+    → Have parents (set table (get_or order number 0) row) (take (number + 1) order)
+Have-more parents table order number row here within is have =
+    let class = get_or order number 0 in
+    All-more (λ (x : ℕ). IsLinearisation parents x (get_or (rows (set table class row)) x [])) order number 0 here
     (All-weaker (λ (x : ℕ). IsLinearisation parents x (get_or (rows table) x [])) (λ (x : ℕ). IsLinearisation parents x (get_or (rows (set table class row)) x []))
-    (λ x h. Have-set parents table class x row within is (inr h)) (take place order) have)
+    (λ x h. Have-set parents table class x row within is (inr h)) (take number order) have)
     (Have-set parents table class class row within is (inl refl))
 
 -- the parents of a class in the order have their lists
-pub Have-parents : (parents : List (List ℕ)) (table : List (Vec ℕ Global)) (order ps : List ℕ) (place : ℕ) → Have parents table (take place order)
-    → All (λ p. is_in (take place order) p ≡ true) ps → Have parents table ps
-Have-parents parents table order ps place have behind =
-    All-weaker (λ p. is_in (take place order) p ≡ true) (λ (x : ℕ). IsLinearisation parents x (get_or (rows table) x []))
-    (λ p h. All-contains (λ (x : ℕ). IsLinearisation parents x (get_or (rows table) x [])) (take place order) p have (Contains-from_In (take place order) p h)) ps behind
+pub Have-parents : (parents : List (List ℕ)) (table : List (Vec ℕ Global)) (order ps : List ℕ) (number : ℕ) → Have parents table (take number order)
+    → All (λ p. is_in (take number order) p ≡ true) ps → Have parents table ps
+Have-parents parents table order ps number have behind =
+    All-weaker (λ p. is_in (take number order) p ≡ true) (λ (x : ℕ). IsLinearisation parents x (get_or (rows table) x []))
+    (λ p h. All-contains (λ (x : ℕ). IsLinearisation parents x (get_or (rows table) x [])) (take number order) p have (Contains-from_In (take number order) p h)) ps behind
 
 -- the list that is read for a parent is its linearisation
 pub parent_list : (parents : List (List ℕ)) (table : List (Vec ℕ Global)) (class i : ℕ) (ps list : List ℕ) (row : Vec ℕ Global) → Within parents

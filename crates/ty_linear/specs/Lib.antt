@@ -1,3 +1,4 @@
+-- What a reader must believe, in this order.
 pub mod Linear
 pub mod Fault
 -- For proofs only.

@@ -6,8 +6,8 @@ use Rattle.ty_linear.specs.Linear.{parents_of, is_in}
 -- each class in the list stands behind its parents
 pub record IsOrder (parents : List (List ℕ)) (order : List ℕ) : Type 0 where
   pub within : All (λ class. class < length parents) order
-  pub behind : (place : ℕ) → place < length order
-      → All (λ class. IsTrue (is_in (take place order) class)) (parents_of parents (slice_index order place))
+  pub behind : (number : ℕ) → number < length order
+      → All (λ class. IsTrue (is_in (take number order) class)) (parents_of parents (slice_index order number))
 
 -- how often a class stands in a list
 abbrev pub count_of : List ℕ → ℕ → ℕ

@@ -42,11 +42,11 @@ fn is_on_cycle(
     let stamp = class + 1;
     let mut found = Vec::new(alloc);
     gather(&mut found, marks, stamp, &parents[class as usize])?;
-    let mut place = 0;
-    while place < found.len() {
-        let ancestor = found[place] as usize;
+    let mut number = 0;
+    while number < found.len() {
+        let ancestor = found[number] as usize;
         gather(&mut found, marks, stamp, &parents[ancestor])?;
-        place += 1;
+        number += 1;
     }
     Ok(marks[class as usize] == stamp)
 }

@@ -19,8 +19,8 @@ pub(crate) fn gather(
     ensures gathered { OnOk result (found.new.items ≡ gathered found.old.items (reverse classes.now)) }
     ensures marked { OnOk result (AreMarked marks.new stamp found.new.items) }
 {
-    for place in (0..classes.len()).rev() {
-        let class = classes[place];
+    for number in (0..classes.len()).rev() {
+        let class = classes[number];
         if marks[class as usize] != stamp {
             marks[class as usize] = stamp;
             found.push(class)?;

@@ -24,8 +24,8 @@ pub(crate) fn lists_of(
 {
     let mut marks = vec![in alloc; 0u32; parents.len()]?;
     let mut lists = empty_rows(alloc, parents.len())?;
-    for (place, class) in order.iter().enumerate() {
-        let stamp = place as u32 + 1;
+    for (number, class) in order.iter().enumerate() {
+        let stamp = number as u32 + 1;
         let list = linearisation(alloc, parents, *class, &lists, &mut marks, stamp)?;
         lists[*class as usize] = list;
     }

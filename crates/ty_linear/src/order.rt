@@ -20,11 +20,11 @@ pub(crate) fn order_of(alloc: Global, parents: &[Vec<u32>]) -> Result<Vec<u32>, 
     let children = children_of(alloc, parents)?;
     let mut waiting = counts(alloc, parents)?;
     let mut order = orphans(alloc, &waiting)?;
-    let mut place = 0;
-    while place < order.len() {
-        let class = order[place] as usize;
+    let mut number = 0;
+    while number < order.len() {
+        let class = order[number] as usize;
         release(&children[class], &mut waiting, &mut order)?;
-        place += 1;
+        number += 1;
     }
     Ok(order)
 }

@@ -11,10 +11,11 @@ use Rattle.ty_room.specs.Room.{MOST_WEIGHT, MOST_ENTRIES, RETURN_WEIGHT, FILE_EN
 use Rattle.ty_room.specs.Limits.{MOST_CLASSES}
 use Rattle.ty_room.specs.Members.{Bound, bound, holds}
 
--- a body with so many locals; a class of a program of as many classes as may be, which brings so much
+-- what a body with so many locals weighs, against the most
 abbrev pub body : Size → ℕ → Bound
 body tree locals = bound (tree.value + RETURN_WEIGHT + locals) MOST_WEIGHT
 
+-- what a class of a program of as many classes as may be brings, against the most
 abbrev pub class : ℕ → Bound
 class entries = bound (FILE_ENTRIES + NAMED_ENTRIES * MOST_CLASSES + coming_entries (ahead_of 0) 0 + entries) MOST_ENTRIES
 
@@ -26,16 +27,19 @@ times n statement = tree (Expr-F.Block (replicate n statement))
 abbrev pub case_of : Size → Size
 case_of pattern = case_size pattern None (tree Expr-F.Unit)
 
+-- the pattern of a literal
 abbrev pub literal : Size
 literal = matched (Pattern-F.Literal int)
 
+-- the pattern of a variable
 abbrev pub bind : Size
 bind = matched (Pattern-F.Bind 0 (matched Pattern-F.«Pattern::Any»))
 
--- `P(x1, .., x120)` and `P(O, .., O)`
+-- `P(x1, .., x120)`
 abbrev pub names : Size
 names = matched (Pattern-F.Make 0 (replicate 120 bind))
 
+-- `P(O, .., O)`
 abbrev pub objects : Size
 objects = matched (Pattern-F.Make 0 (replicate 120 (matched (Pattern-F.Object 0))))
 
@@ -47,6 +51,7 @@ calls = times 8 (called this (replicate 120 (boxed int)))
 abbrev pub lazy_member : ℕ
 lazy_member = CELL_ENTRIES + int.entries + METHOD_ENTRIES + BODY_ENTRIES + (tree (Expr-F.LazyGet this 0 0)).entries
 
+-- the bodies and classes at the limits
 abbrev pub at_limits : List Bound
 at_limits =
     -- 940 literals in one pattern; eight cases P(x1, .., x120)
@@ -66,5 +71,6 @@ at_limits =
     ∷ body (times 249 (text_added (tree (Expr-F.Try int None None)))) 0
     ∷ []
 
+-- each of them keeps its bound
 abbrev pub limits_fit : Bool
 limits_fit = list_all holds at_limits

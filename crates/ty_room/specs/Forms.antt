@@ -10,43 +10,51 @@ use Rattle.ty_room.specs.declared.size.Size.{Size}
 use Rattle.ty_room.specs.Ahead.{ahead_of}
 use Rattle.ty_room.specs.Sizing.{nothing, beside, heavier, case_size, expr_step, pattern_step}
 
--- a part that weighs nothing; one in which a `try` stands
+-- a part that weighs nothing
 abbrev pub plain : Size
 plain = record { value = 0; test = 0; fixed = None; tries = 0; kept = 0; entries = 0; supers = 0 }
 
+-- a part in which a `try` stands
 abbrev pub trying_part : Size
 trying_part = record { value = 0; test = 3; fixed = None; tries = 1; kept = 0; entries = 0; supers = 0 }
 
--- a level of an expression or of a pattern, whose parts are sizes, before the lowerings
+-- a level of an expression, whose parts are sizes, before the lowerings
 abbrev pub tree : Expr-F Size Size Size Size → Size
 tree = expr_step (ahead_of 0)
 
+-- a level of a pattern, whose parts are sizes
 abbrev pub matched : Pattern-F Size Size Size Size → Size
 matched = pattern_step
 
--- the same made Any, or Long, which takes less
+-- an expression made Any; made Long it takes less
 abbrev pub boxed : Size → Size
 boxed e = tree (Expr-F.Convert ty.Any e)
 
+-- `this`
 abbrev pub this : Size
 this = tree Expr-F.This
 
+-- the literal `false`
 abbrev pub never : Size
 never = tree (Expr-F.Bool false)
 
+-- the literal `true`
 abbrev pub always : Size
 always = tree (Expr-F.Bool true)
 
+-- a local that isn't the first
 abbrev pub local : Size
 local = tree (Expr-F.Local 1)
 
--- the read of a member, of which object and with which arguments
+-- a call of a member of an object, with arguments
 abbrev pub called : Size → List Size → Size
 called of args = tree (Expr-F.Call of 0 0 args)
 
+-- `new` with arguments
 abbrev pub applied : List Size → Size
 applied args = tree (Expr-F.New 0 args)
 
+-- two values joined as texts by `+`
 abbrev pub joined_texts : Size → Size → Size
 joined_texts a b = tree (Expr-F.Prim op.Concat (tree (Expr-F.TextOf a) ∷ tree (Expr-F.TextOf b) ∷ []))
 
@@ -58,16 +66,19 @@ pub record Form : Type 0 where
   pub others : ℕ
   pub size : Size
 
+-- such a form
 abbrev pub row : ℕ → ℕ → ℕ → Size → Form
 row nodes exprs others size = record { nodes = nodes; exprs = exprs; others = others; size = size }
 
--- what an expression, a case and a pattern leave of 31 bytes for each node, at least: a part may be an operand
+-- what an expression leaves of 31 bytes for each node, at least: a part may be an operand
 abbrev pub EXPR_SPARE : ℕ
 EXPR_SPARE = 13
 
+-- what a case leaves of them
 abbrev pub CASE_SPARE : ℕ
 CASE_SPARE = 20
 
+-- what a pattern leaves of them
 abbrev pub PATTERN_SPARE : ℕ
 PATTERN_SPARE = 2
 
@@ -155,6 +166,7 @@ pub record Lowered : Type 0 where
   pub entries : ℕ
   pub high : Size
 
+-- what stands for a form, where its value is wanted
 abbrev pub low : Size → Size → Lowered
 low made high = record { bytes = made.value; entries = made.entries; high = high }
 
@@ -162,6 +174,7 @@ low made high = record { bytes = made.value; entries = made.entries; high = high
 abbrev pub test_of : Size → Size → Lowered
 test_of made high = record { bytes = made.test; entries = made.entries; high = high }
 
+-- whether what stands for a form takes no more bytes and brings no more entries than the form
 abbrev pub no_more : Lowered → Bool
 no_more l = nat_le l.bytes l.high.value && nat_le l.entries l.high.entries
 
@@ -169,44 +182,55 @@ no_more l = nat_le l.bytes l.high.value && nat_le l.entries l.high.entries
 abbrev pub tree_at : ℕ → Expr-F Size Size Size Size → Size
 tree_at k = expr_step (ahead_of k)
 
--- the matched value, in a local, and a part of it that is read
+-- a part of the matched value, which is in a local, as it is read
 abbrev pub part : Size
 part = tree_at 3 (Expr-F.Get local 0 0)
 
+-- a value that is kept in a new local
 abbrev pub kept_in_local : Size → Size
 kept_in_local value = heavier 1 (tree_at 3 (Expr-F.SetLocal 0 value))
 
--- the first of some statements, and a test with what follows
+-- a statement in front of the rest
 abbrev pub first_then : Size → Size → Size
 first_then first rest = tree_at 3 (Expr-F.Block (first ∷ rest ∷ []))
 
+-- a test, and another where it is true
 abbrev pub joined : Size → Size → Size
 joined test rest = tree_at 3 (Expr-F.If test rest never)
 
+-- an expression made Any
 abbrev pub any_of : Size → Size
 any_of e = tree_at 3 (Expr-F.Convert ty.Any e)
 
+-- an expression made an object of a class
 abbrev pub cast : Size → Size
 cast e = tree_at 3 (Expr-F.Convert (ty.Class 0) e)
 
+-- whether a value equals a literal, and then the rest
 abbrev pub literal_test : Size → Size → Size → Size
 literal_test literal value rest = joined (tree_at 3 (Expr-F.Prim op.Equals (any_of literal ∷ any_of value ∷ []))) rest
 
+-- whether a value is that of an object definition, and then the rest
 abbrev pub object_test : Size → Size → Size
 object_test value rest = joined (tree_at 3 (Expr-F.Equal (tree_at 3 (Expr-F.ModuleGet 0)) value)) rest
 
+-- whether a value is of a type, and then the rest
 abbrev pub type_test : Size → Size → Size
 type_test value rest = joined (tree_at 3 (Expr-F.Test value (tested.OfType ty.Int))) rest
 
+-- a variable of a pattern gets a value, and then the rest
 abbrev pub bound : Size → Size → Size
 bound value rest = first_then (tree_at 3 (Expr-F.SetLocal 0 (tree_at 3 (Expr-F.Convert ty.Unit value)))) rest
 
+-- a part kept and tested for a type, and then the rest
 abbrev pub few_parts : Size → Size
 few_parts rest = first_then (kept_in_local part) (type_test local rest)
 
+-- the same, with the part kept under its own type too
 abbrev pub many_parts : Size → Size
 many_parts rest = first_then (kept_in_local part) (type_test local (first_then (kept_in_local (cast local)) rest))
 
+-- a literal of Int
 abbrev pub int : Size
 int = tree (Expr-F.Int (pos 0))
 

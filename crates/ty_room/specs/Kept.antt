@@ -33,15 +33,17 @@ pub record BodyKept (j k given given' locals locals' : ℕ) (low high : Expr) : 
   pub size : NoMore (expr_size (ahead_of j) low) (expr_size (ahead_of k) high)
   pub new : locals - given ≤ locals' - given'
 
--- a lazy member, and a method: one without a body always has room
+-- a lazy member that a pass leaves
 unfoldable pub CellKept : ℕ → ℕ → Cell → Cell → Type 0
 CellKept j k low high = BodyKept j k 0 0 low.locals high.locals low.init high.init
 
+-- the bodies of two methods, if they have any: a method without a body always has room
 abbrev pub SomeKept : ℕ → ℕ → Method → Method → Option Expr → Option Expr → Type 0
 SomeKept j k low high None body = Unit
 SomeKept j k low high (Some body) None = ⊥
 SomeKept j k low high (Some body) (Some other) = BodyKept j k (length low.params) (length high.params) low.locals high.locals body other
 
+-- a method that a pass leaves
 unfoldable pub MethodKept : ℕ → ℕ → Method → Method → Type 0
 MethodKept j k low high = SomeKept j k low high low.body high.body
 

@@ -1,12 +1,12 @@
--- What a reader must believe.
+-- What a reader must believe, in this order.
 pub mod Room
 pub mod Numbers
-pub mod Sizing
 pub mod Ahead
+pub mod Sizing
 pub mod Forms
+pub mod Source
 pub mod NoMore
 pub mod Replaced
-pub mod Source
 pub mod Members
 pub mod Limits
 pub mod AtLimits

@@ -10,13 +10,15 @@ use Rattle.ty_room.specs.Ahead.{ahead_of}
 use Rattle.ty_room.specs.Sizing.{expr_size}
 use Rattle.ty_room.specs.Room.{superclass_size, class_size, part_entries, taken_entries, ACCESSOR_ENTRIES}
 
--- the most nodes of a body or a constructor, the most units of a class, the most classes, those of the prelude included
+-- the most nodes of a body or a constructor
 abbrev pub MOST_NODES : ℕ
 MOST_NODES = 1000
 
+-- the most units of a class
 abbrev pub MOST_UNITS : ℕ
 MOST_UNITS = 10000
 
+-- the most classes of a program, those of the prelude included
 abbrev pub MOST_CLASSES : ℕ
 MOST_CLASSES = 4120
 
@@ -38,14 +40,16 @@ pub record BodyWithin (given locals : ℕ) (body : Expr) : Type 0 where
   pub few : nodes ≤ MOST_NODES
   pub bytes : 5 * ((expr_size (ahead_of 0) body).value + (locals - given)) ≤ FIFTHS * nodes
 
--- a lazy member, and a method, perhaps without a body
+-- a lazy member
 unfoldable pub CellWithin : Cell → Type 0
 CellWithin cell = BodyWithin 0 cell.locals cell.init
 
+-- the body of a method, if it has one
 abbrev pub SomeWithin : Method → Option Expr → Type 0
 SomeWithin method None = Unit
 SomeWithin method (Some body) = BodyWithin (length method.params) method.locals body
 
+-- a method
 unfoldable pub MethodWithin : Method → Type 0
 MethodWithin method = SomeWithin method method.body
 

@@ -11,29 +11,35 @@ pub record Bound : Type 0 where
   pub is : ℕ
   pub most : ℕ
 
+-- so much, against so much
 abbrev pub bound : ℕ → ℕ → Bound
 bound is most = record { is = is; most = most }
 
+-- whether a bound is kept
 abbrev pub holds : Bound → Bool
 holds b = nat_le b.is b.most
 
--- entries of a form after k lowerings, whose parts bring none
+-- entries of the read of a field after k lowerings
 abbrev pub getting : ℕ → ℕ
 getting k = (tree_at k (Expr-F.Get (tree_at k Expr-F.This) 0 0)).entries
 
+-- entries of the write of a field
 abbrev pub putting : ℕ → ℕ
 putting k = (tree_at k (Expr-F.Put (tree_at k Expr-F.This) 0 0 (tree_at k (Expr-F.Local 0)))).entries
 
+-- entries of the read of a lazy member
 abbrev pub reading_cell : ℕ → ℕ
 reading_cell k = (tree_at k (Expr-F.LazyGet (tree_at k Expr-F.This) 0 0)).entries
 
+-- entries of the call of a static method, when traits are lowered
 abbrev pub calling_static : ℕ
 calling_static = (tree_at 2 (Expr-F.StaticCall 0 0 (tree_at 2 Expr-F.This ∷ []))).entries
 
--- the method that reads a member, and the one that sets it, in a trait, where they bring most
+-- the method that reads a member, in a trait, where it brings most
 abbrev pub getter : ℕ
 getter = METHOD_ENTRIES + BODY_ENTRIES + getting 0
 
+-- the method that sets a member, in a trait, where it brings most
 abbrev pub setter : ℕ
 setter = METHOD_ENTRIES + BODY_ENTRIES + putting 0
 
@@ -41,6 +47,7 @@ setter = METHOD_ENTRIES + BODY_ENTRIES + putting 0
 abbrev pub UNIT_ENTRIES : ℕ
 UNIT_ENTRIES = 5
 
+-- what so many units may bring
 abbrev pub units : ℕ → ℕ
 units n = UNIT_ENTRIES * n
 
@@ -90,8 +97,10 @@ of_lowerings =
     (CELL_ENTRIES + reading_cell 3)
     ∷ []
 
+-- each member of source brings no more than its units may
 abbrev pub members_fit : Bool
 members_fit = list_all holds of_source
 
+-- what each lowering brings was counted before
 abbrev pub gains_fit : Bool
 gains_fit = list_all holds of_lowerings

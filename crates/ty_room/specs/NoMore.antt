@@ -27,34 +27,43 @@ pub record Part : Type 0 where
   pub high : Size
   pub no_more : NoMore low high
 
+-- a part as a pass leaves it
 abbrev pub low_of : Part → Size
 low_of part = part.low
 
+-- a part as it was
 abbrev pub high_of : Part → Size
 high_of part = part.high
 
--- a level of a tree with its parts as a pass leaves them, and as they were
+-- a level of an expression with its parts as a pass leaves them
 abbrev pub low_expr : Expr-F Part Part Part Part → Expr-F Size Size Size Size
 low_expr = map-Expr Part Part Part Part Size Size Size Size low_of low_of low_of low_of
 
+-- a level of an expression with its parts as they were
 abbrev pub high_expr : Expr-F Part Part Part Part → Expr-F Size Size Size Size
 high_expr = map-Expr Part Part Part Part Size Size Size Size high_of high_of high_of high_of
 
+-- the same of a handler, as a pass leaves its parts
 abbrev pub low_handler : Catch-F Part Part Part Part → Catch-F Size Size Size Size
 low_handler = map-Catch Part Part Part Part Size Size Size Size low_of low_of low_of low_of
 
+-- the same of a handler, with its parts as they were
 abbrev pub high_handler : Catch-F Part Part Part Part → Catch-F Size Size Size Size
 high_handler = map-Catch Part Part Part Part Size Size Size Size high_of high_of high_of high_of
 
+-- the same of a pattern, as a pass leaves its parts
 abbrev pub low_pattern : Pattern-F Part Part Part Part → Pattern-F Size Size Size Size
 low_pattern = map-Pattern Part Part Part Part Size Size Size Size low_of low_of low_of low_of
 
+-- the same of a pattern, with its parts as they were
 abbrev pub high_pattern : Pattern-F Part Part Part Part → Pattern-F Size Size Size Size
 high_pattern = map-Pattern Part Part Part Part Size Size Size Size high_of high_of high_of high_of
 
+-- the same of a case, as a pass leaves its parts
 abbrev pub low_case : Case-F Part Part Part Part → Case-F Size Size Size Size
 low_case = map-Case Part Part Part Part Size Size Size Size low_of low_of low_of low_of
 
+-- the same of a case, with its parts as they were
 abbrev pub high_case : Case-F Part Part Part Part → Case-F Size Size Size Size
 high_case = map-Case Part Part Part Part Size Size Size Size high_of high_of high_of high_of
 

@@ -64,10 +64,11 @@ local_bytes ahead local = if ahead.traits then 4 else (if nat_eq local 0 then 1 
 abbrev pub kept_bytes : ℕ → ℕ
 kept_bytes all = if nat_le all 8 then 0 else (if nat_eq all 16 then 10 else all)
 
--- a read of a field, and a write, which it may make calls
+-- the read of a field, which the lowering of traits may make a call
 abbrev pub get_numbers : Ahead → Numbers
 get_numbers ahead = if ahead.traits then operation 6 4 else operation 3 3
 
+-- the write of a field, which that may make a call too
 abbrev pub put_numbers : Ahead → Numbers
 put_numbers ahead = if ahead.traits then operation 6 4 else operation 4 3
 

@@ -19,6 +19,7 @@ abbrev pub each : (Replaced → Type 0) → List Replaced → Type 0
 each holds [] = Unit
 each holds (row ∷ rows) = holds row × each holds rows
 
+-- such a row
 abbrev pub instead : Size → Size → Replaced
 instead low high = record { low = low; high = high }
 
@@ -79,6 +80,7 @@ pub record Tests (read : ℕ) (made pattern rest : Size) : Type 0 where
   pub entries : made.entries ≤ pattern.entries + rest.entries
   pub supers : made.supers ≤ pattern.supers + rest.supers
 
+-- the same of a row
 abbrev pub IsTest : ℕ → Size → Replaced → Type 0
 IsTest read rest row = Tests read row.low row.high rest
 
@@ -93,15 +95,19 @@ pub record Reads (read : ℕ) (value : Size) : Type 0 where
 abbrev pub cast_part : Size
 cast_part = tree_at 3 (Expr-F.Get (cast local) 0 0)
 
+-- the pattern of a literal
 abbrev pub literal : Size → Size
 literal e = pattern_step (Pattern-F.Literal e)
 
+-- a literal of Long
 abbrev pub long : Size
 long = tree_at 3 (Expr-F.Long (pos 0))
 
+-- a literal of a text
 abbrev pub text : Size
 text = tree_at 3 (Expr-F.Text [])
 
+-- `null`
 abbrev pub null : Size
 null = tree_at 3 Expr-F.Null
 
@@ -121,10 +127,11 @@ of_patterns value rest =
 abbrev pub kept_first : Size → Size → Size
 kept_first value inner = first_then (kept_in_local value) inner
 
--- of a case class: few parts are read through a conversion, many from a local of the class
+-- a pattern of a case class with few parts, which are read through a conversion
 abbrev pub few_made : Size → Size → Size
 few_made value inner = kept_first value (type_test local inner)
 
+-- a pattern of a case class with many parts, which are read from a local of the class
 abbrev pub many_made : Size → Size → Size
 many_made value inner = kept_first value (type_test local (kept_first (cast local) inner))
 

@@ -28,13 +28,15 @@ MOST_ENTRIES = 64000
 abbrev pub RETURN_WEIGHT : ℕ
 RETURN_WEIGHT = 2
 
--- a constructor stores each class parameter, runs the statements of each trait, and stores the reference of an object
+-- a constructor stores each class parameter
 abbrev pub PARAMETER_WEIGHT : ℕ
 PARAMETER_WEIGHT = 8
 
+-- it runs the statements of each trait that is mixed in
 abbrev pub MIXIN_WEIGHT : ℕ
 MIXIN_WEIGHT = 8
 
+-- it stores the reference of an object
 abbrev pub OBJECT_WEIGHT : ℕ
 OBJECT_WEIGHT = 12
 
@@ -82,13 +84,15 @@ ACCESSOR_ENTRIES = 2
 abbrev pub MIXIN_ENTRIES : ℕ
 MIXIN_ENTRIES = 5
 
--- each field, each method and each lazy member that is taken from a trait
+-- each field that is taken from a trait
 abbrev pub TAKEN_FIELD_ENTRIES : ℕ
 TAKEN_FIELD_ENTRIES = 20
 
+-- each method that is taken from a trait
 abbrev pub TAKEN_METHOD_ENTRIES : ℕ
 TAKEN_METHOD_ENTRIES = 12
 
+-- each lazy member that is taken from a trait
 abbrev pub TAKEN_CELL_ENTRIES : ℕ
 TAKEN_CELL_ENTRIES = 36
 

@@ -209,12 +209,12 @@ make_size parts = record {
   supers = parts.supers;
 }
 
--- one level of a tree whose parts have become sizes
+-- the size of a handler whose parts have become sizes
 abbrev pub handler_step : Catch-F Size Size Size Size → Size
 handler_step (Catch-F.Cases cases) = together cases
 handler_step (Catch-F.«Catch::Any» local body) = beside nothing body
 
--- an expression: bytes and entries of each form
+-- the size of an expression whose parts have become sizes: bytes and entries of each form
 abbrev pub expr_step : Ahead → Expr-F Size Size Size Size → Size
 expr_step ahead (Expr-F.Int n) = node_size (form 3 1) nothing
 expr_step ahead (Expr-F.Long n) = node_size (form 3 2) nothing
@@ -269,16 +269,19 @@ pattern_step (Pattern-F.Either parts) = node_size (form 17 3) (together parts)
 abbrev pub case_step : Case-F Size Size Size Size → Size
 case_step c = case_size c.pattern c.guard c.body
 
--- the size of each kind of tree
+-- the size of an expression
 abbrev pub expr_size : Ahead → Expr → Size
 expr_size ahead = fold-Expr Size Size Size Size handler_step (expr_step ahead) pattern_step case_step
 
+-- the size of a case
 abbrev pub case_sizes : Ahead → Case → Size
 case_sizes ahead = fold-Case Size Size Size Size handler_step (expr_step ahead) pattern_step case_step
 
+-- the size of a pattern
 abbrev pub pattern_size : Ahead → Pattern → Size
 pattern_size ahead = fold-Pattern Size Size Size Size handler_step (expr_step ahead) pattern_step case_step
 
+-- the size of a handler
 abbrev pub handler_size : Ahead → Catch → Size
 handler_size ahead = fold-Catch Size Size Size Size handler_step (expr_step ahead) pattern_step case_step
 

@@ -13,13 +13,15 @@ pub record Worth (spare left nodes : ℕ) (size : Size) : Type 0 where
   pub test : size.test ≤ size.value + 3
   pub entries : size.entries + left ≤ 5 * nodes
 
--- an expression, a case, a pattern
+-- an expression for so many nodes of source
 abbrev pub ExprWorth : ℕ → Size → Type 0
 ExprWorth = Worth EXPR_SPARE 1
 
+-- a case for so many nodes
 abbrev pub CaseWorth : ℕ → Size → Type 0
 CaseWorth = Worth CASE_SPARE 0
 
+-- a pattern for so many nodes
 abbrev pub PatternWorth : ℕ → Size → Type 0
 PatternWorth = Worth PATTERN_SPARE 0
 
@@ -50,13 +52,15 @@ leaves local =
 abbrev pub added : PrimOp → Size → Size → Size
 added o read e = tree (Expr-F.Prim o (read ∷ e ∷ []))
 
--- `x = e` of a local, `x = e` of a member, and `a.x = ..` of which a is evaluated once, in a new local
+-- `x = e` of a local
 abbrev pub local_set : ℕ → Size → Size
 local_set local e = boxed (tree (Expr-F.SetLocal local e))
 
+-- `x = e` of a member
 abbrev pub member_set : Size → Size
 member_set e = boxed (called this (e ∷ []))
 
+-- `a.x = e` of another object, which is evaluated once, in a new local
 abbrev pub other_set : ℕ → Size → Size → Size
 other_set local a e = heavier 1 (boxed (tree (Expr-F.Block (tree (Expr-F.SetLocal local a) ∷ called (tree (Expr-F.Local local)) (e ∷ []) ∷ []))))
 
@@ -64,10 +68,11 @@ other_set local a e = heavier 1 (boxed (tree (Expr-F.Block (tree (Expr-F.SetLoca
 abbrev pub member_of : ℕ → Size
 member_of local = called (tree (Expr-F.Local local)) []
 
--- the arguments of a superclass constructor, and the value of a field in the constructor of its template
+-- the arguments of a superclass constructor
 abbrev pub superclass_args : List Size → Size
 superclass_args args = node_size (making 4 0 0) (together args)
 
+-- the value of a field in the constructor of its template
 abbrev pub field_set : Size → Size
 field_set e = tree (Expr-F.Put this 0 0 e)
 

@@ -94,6 +94,7 @@ pub(crate) fn cells_have_room(ahead: Ahead, cells: &[Cell]) -> bool
     cells.iter().all(|cell| cell_has_room(ahead, cell))
 }
 
+// Whether the initialiser of a lazy member is light enough.
 #[tactic(auto, unfolding(crate::specs::Room::CellHasRoom))]
 fn cell_has_room(ahead: Ahead, cell: &Cell) -> bool
     ensures { IsTrue result ↔ CellHasRoom ahead cell.now }
@@ -108,6 +109,7 @@ pub(crate) fn methods_have_room(ahead: Ahead, methods: &[Method]) -> bool
     methods.iter().all(|method| method_has_room(ahead, method))
 }
 
+// Whether the body of a method is, if it has one.
 fn method_has_room(ahead: Ahead, method: &Method) -> bool
     ensures { IsTrue result ↔ MethodHasRoom ahead method.now }
 {

@@ -44,6 +44,7 @@ pub fn has_room(p: &Program, k: u32) -> bool
         .all(|class| class_has_room(ahead, classes, class))
 }
 
+// Whether a class has room.
 fn class_has_room(ahead: Ahead, classes: &[Class], class: &Class) -> bool
     ensures { IsTrue result ↔ ClassHasRoom ahead classes.now class.now }
 {

@@ -66,6 +66,7 @@ fn part_entries(ahead: Ahead, class: &Class) -> u32
     plus(plus(plus(params, fields), cells), methods)
 }
 
+// The entries of some methods.
 fn all_methods(ahead: Ahead, kind: Kind, methods: &[Method]) -> u32
     ensures { result ≡ capped (sum_by (method_entries ahead kind) methods.now) }
 {

@@ -112,6 +112,7 @@ pub(crate) fn expr_size(ahead: Ahead, e: &Expr) -> Size
     }
 }
 
+// An expression as the only part.
 #[cycle(sizes)]
 fn one(ahead: Ahead, e: &Boxed<Expr>) -> Size
     ensures { IsSize result (beside nothing (expr_size ahead e.now)) }
@@ -119,6 +120,7 @@ fn one(ahead: Ahead, e: &Boxed<Expr>) -> Size
     beside(nothing(), expr_size(ahead, e.get()))
 }
 
+// Parts and one more, if there is one.
 #[cycle(sizes)]
 fn with_optional(ahead: Ahead, parts: Size, e: &Option<Boxed<Expr>>) -> Size
     ensures { (x : Size) → IsSize parts x → IsSize result (with_optional x (option_map (expr_size ahead) e.now)) }
@@ -129,6 +131,7 @@ fn with_optional(ahead: Ahead, parts: Size, e: &Option<Boxed<Expr>>) -> Size
     }
 }
 
+// Parts and a `finally`, if there is one.
 #[cycle(sizes)]
 fn with_finally(ahead: Ahead, parts: Size, e: &Option<Boxed<Expr>>) -> Size
     ensures { (x : Size) → IsSize parts x → IsSize result (with_finally x (option_map (expr_size ahead) e.now)) }
@@ -139,6 +142,7 @@ fn with_finally(ahead: Ahead, parts: Size, e: &Option<Boxed<Expr>>) -> Size
     }
 }
 
+// Parts and those of a handler, if there is one.
 #[cycle(sizes)]
 fn with_handler(ahead: Ahead, parts: Size, handler: &Option<Catch>) -> Size
     ensures { (x : Size) → IsSize parts x
@@ -163,6 +167,7 @@ fn handler_size(ahead: Ahead, handler: &Catch) -> Size
     }
 }
 
+// Parts and a guard, if there is one.
 #[cycle(sizes)]
 fn with_guard(ahead: Ahead, parts: Size, guard: &Option<Expr>) -> Size
     ensures { (x : Size) → IsSize parts x → IsSize result (with_guard x (option_map (expr_size ahead) guard.now)) }
@@ -185,6 +190,7 @@ pub(crate) fn all_exprs(ahead: Ahead, es: &[Expr]) -> Size
     so_far
 }
 
+// The sizes of cases together.
 #[cycle(sizes)]
 fn all_cases(ahead: Ahead, cases: &[Case]) -> Size
     ensures { IsSize result (together (map (case_sizes ahead) cases.now)) }
@@ -196,6 +202,7 @@ fn all_cases(ahead: Ahead, cases: &[Case]) -> Size
     so_far
 }
 
+// The sizes of patterns together.
 #[cycle(sizes)]
 fn patterns(ahead: Ahead, parts: &[Pattern]) -> Size
     ensures { IsSize result (together (map (pattern_size ahead) parts.now)) }
@@ -218,6 +225,7 @@ fn block_size(ahead: Ahead, es: &[Expr]) -> Size
     closed(so_far)
 }
 
+// The size of a case.
 #[cycle(sizes)]
 fn case_size(ahead: Ahead, c: &Case) -> Size
     ensures { IsSize result (case_sizes ahead c.now) }

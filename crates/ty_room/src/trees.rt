@@ -27,6 +27,7 @@ pub(crate) fn class_size(ahead: Ahead, class: &Class) -> Size
     )
 }
 
+// The sizes of the initialisers of lazy members together.
 fn all_cells(ahead: Ahead, cells: &[Cell]) -> Size
     ensures { IsSize result (together (map (λ cell. expr_size ahead cell.init) cells.now)) }
 {
@@ -37,6 +38,7 @@ fn all_cells(ahead: Ahead, cells: &[Cell]) -> Size
     so_far
 }
 
+// The sizes of the bodies of methods together.
 fn all_methods(ahead: Ahead, methods: &[Method]) -> Size
     ensures { IsSize result (together (map (λ method. body_size ahead method.body) methods.now)) }
 {

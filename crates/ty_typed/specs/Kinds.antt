@@ -34,8 +34,8 @@ first_kind fit =
     if fit.array then Some kind.Array else None
 
 -- the kind of values of these types; None where they are of several
-abbrev pub kind_of : List Class → List Ty → Option ValueKind
-kind_of classes types = first_kind (kinds_fit classes types)
+abbrev pub value_kind : List Class → List Ty → Option ValueKind
+value_kind classes types = first_kind (kinds_fit classes types)
 
 -- For proofs only.
 

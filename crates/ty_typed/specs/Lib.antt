@@ -1,10 +1,10 @@
--- What a reader must believe.
+-- What a reader must believe, in this order.
+pub mod Stands
+pub mod Members
+pub mod Types
+pub mod NodeTyped
 pub mod Bodies
 pub mod Kinds
-pub mod Members
-pub mod NodeTyped
-pub mod Stands
-pub mod Types
 -- For proofs only.
 pub mod Looked
 pub mod Parts

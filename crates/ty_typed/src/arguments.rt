@@ -119,6 +119,7 @@ fn first_takes(scope: Scope<'_>, parents: &[u32], args: &Items<Expr>) -> bool
     }
 }
 
+// Whether the superclass takes these arguments.
 fn parent_takes(scope: Scope<'_>, class: u32, args: &Items<Expr>) -> bool
     ensures { result ≡ all_fit (classes_of scope.entry) (within scope.entry types_of_each args.now) (params_or_none (classes_of scope.entry) class) }
 {

@@ -34,6 +34,7 @@ impl Rule for Typed<'_> {
     }
 }
 
+// Whether each node of a tree is typed.
 fn nodes_typed(scope: Scope<'_>, root: Node<'_>) -> bool
     ensures { IsTrue result ↔ Everywhere (λ node. IsTrue (within scope.entry node_typed node)) (tree_of root.entry) }
 {
@@ -50,18 +51,21 @@ pub(crate) fn body_typed(scope: Scope<'_>, given: &[Ty], count: u32, root: Node<
     nodes_typed(scope, root)
 }
 
+// Whether there are so many locals.
 fn is_count(locals: &[Ty], count: u32) -> bool
     ensures { IsTrue result ↔ (length locals.now ≡ count) }
 {
     locals.len() == count as usize
 }
 
+// Whether locals begin with the given types.
 fn begin_with(locals: &[Ty], given: &[Ty]) -> bool
     ensures { IsTrue result ↔ (take (length given.now) locals.now ≡ given.now) }
 {
     begins(locals, given)
 }
 
+// The same, by one type after the other.
 fn begins(locals: &[Ty], given: &[Ty]) -> bool
     ensures { IsTrue result ↔ Begins given.now locals.now }
 {
@@ -90,12 +94,14 @@ pub(crate) fn constructor_typed(scope: Scope<'_>, class: &Class) -> bool
     nodes_typed(scope, Node::Constructor(class))
 }
 
+// Whether the locals of a constructor begin with the types of the class parameters.
 fn begin_with_params(locals: &[Ty], class: &Class) -> bool
     ensures { IsTrue result ↔ (take (length (param_types class.now)) locals.now ≡ param_types class.now) }
 {
     begins_with_fields(locals, class.fields.as_slice(), class.params.as_slice())
 }
 
+// The same, by the fields that the parameters are.
 fn begins_with_fields(locals: &[Ty], fields: &[Field], params: &[u32]) -> bool
     ensures { IsTrue result ↔ Begins (types_of_fields fields.now params.now) locals.now }
 {
@@ -116,6 +122,7 @@ fn begins_with_fields(locals: &[Ty], fields: &[Field], params: &[u32]) -> bool
     true
 }
 
+// Whether two types are one.
 fn is_same(one: Ty, other: Ty) -> bool
     ensures { IsTrue result ↔ (one ≡ other) }
 {

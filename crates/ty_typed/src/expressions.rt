@@ -68,6 +68,7 @@ pub(crate) fn all_suit(scope: Scope<'_>, e: &Expr, wanted: Wanted) -> bool
     }
 }
 
+// Whether the last of some statements suits.
 #[cycle(fitting)]
 fn last_suits(scope: Scope<'_>, es: &Items<Expr>, wanted: Wanted) -> bool
     ensures { result ≡ all_suit (classes_of scope.entry) wanted (last_of (within scope.entry types_of_each es.now)) }
@@ -78,6 +79,7 @@ fn last_suits(scope: Scope<'_>, es: &Items<Expr>, wanted: Wanted) -> bool
     }
 }
 
+// Whether what a handler gives suits.
 #[cycle(fitting)]
 fn handler_suits(scope: Scope<'_>, handler: &Option<Catch>, wanted: Wanted) -> bool
     ensures { result ≡ all_suit (classes_of scope.entry) wanted (within scope.entry types_of_handler handler.now) }
@@ -89,6 +91,7 @@ fn handler_suits(scope: Scope<'_>, handler: &Option<Catch>, wanted: Wanted) -> b
     }
 }
 
+// Whether what each case gives suits.
 #[cycle(fitting)]
 fn cases_suit(scope: Scope<'_>, cases: &Items<Case>, wanted: Wanted) -> bool
     ensures { result ≡ all_suit (classes_of scope.entry) wanted (all_of (map (within scope.entry types_of_case) cases.now)) }
@@ -101,6 +104,7 @@ fn cases_suit(scope: Scope<'_>, cases: &Items<Case>, wanted: Wanted) -> bool
     true
 }
 
+// Whether what an operator gives suits.
 fn prim_suits(scope: Scope<'_>, op: PrimOp, args: &Items<Expr>, wanted: Wanted) -> bool
     ensures { result ≡ all_suit (classes_of scope.entry) wanted (prim_types (classes_of scope.entry) op (within scope.entry types_of_each args.now)) }
 {

@@ -1,7 +1,7 @@
 //! Of which kind the values of expressions are: one pass from the leaves up.
 
 ghost use Rattle.std.specs.Prelude.{◌≡◌, map, take, option_to_list};
-ghost use Rattle.ty_typed.specs.Kinds.{kinds_fit, kind_of, first_kind, all_kinds_fit, both, type_kinds, has, first_that_fits};
+ghost use Rattle.ty_typed.specs.Kinds.{kinds_fit, value_kind, first_kind, all_kinds_fit, both, type_kinds, has, first_that_fits};
 ghost use Rattle.ty_typed.specs.Scopes.{within, classes_of};
 ghost use Rattle.ty_typed.specs.Stands.{common, numbers};
 ghost use Rattle.ty_typed.specs.Types.{types_of, last_of, all_of, prim_types};
@@ -36,11 +36,12 @@ const NONE: KindsFit = KindsFit {
 
 /// The kind of the values of an expression; None where they are of several. The time is linear in the expression.
 pub fn value_kind(scope: Scope<'_>, e: &Expr) -> Option<ValueKind>
-    ensures { result ≡ kind_of (classes_of scope.entry) (within scope.entry types_of e.now) }
+    ensures { result ≡ value_kind (classes_of scope.entry) (within scope.entry types_of e.now) }
 {
     first_kind(kinds_fit(scope, e))
 }
 
+// The first kind that fits.
 fn first_kind(fit: KindsFit) -> Option<ValueKind>
     ensures { result ≡ first_kind fit }
 {
@@ -113,6 +114,7 @@ pub(crate) fn kinds_fit(scope: Scope<'_>, e: &Expr) -> KindsFit
     }
 }
 
+// The kinds of the last of some statements.
 #[cycle(kinds)]
 fn last_kinds(scope: Scope<'_>, es: &Items<Expr>) -> KindsFit
     ensures { result ≡ kinds_fit (classes_of scope.entry) (last_of (within scope.entry types_of_each es.now)) }
@@ -123,6 +125,7 @@ fn last_kinds(scope: Scope<'_>, es: &Items<Expr>) -> KindsFit
     }
 }
 
+// The kinds of what a handler gives.
 #[cycle(kinds)]
 fn handler_kinds(scope: Scope<'_>, handler: &Option<Catch>) -> KindsFit
     ensures { result ≡ kinds_fit (classes_of scope.entry) (within scope.entry types_of_handler handler.now) }
@@ -134,6 +137,7 @@ fn handler_kinds(scope: Scope<'_>, handler: &Option<Catch>) -> KindsFit
     }
 }
 
+// The kinds that what each case gives has.
 #[cycle(kinds)]
 fn case_kinds(scope: Scope<'_>, cases: &Items<Case>) -> KindsFit
     ensures { result ≡ kinds_fit (classes_of scope.entry) (all_of (map (within scope.entry types_of_case) cases.now)) }
@@ -145,6 +149,7 @@ fn case_kinds(scope: Scope<'_>, cases: &Items<Case>) -> KindsFit
     fit
 }
 
+// The kinds of what a case gives.
 #[cycle(kinds)]
 fn one_case_kinds(scope: Scope<'_>, c: &Case) -> KindsFit
     ensures { result ≡ kinds_fit (classes_of scope.entry) (within scope.entry types_of_case c.now) }
@@ -186,6 +191,7 @@ pub(crate) fn first_number(scope: Scope<'_>, args: &Items<Expr>) -> Option<Ty>
     }
 }
 
+// The kinds that all of some expressions have.
 #[cycle(kinds)]
 fn all_kinds_fit(scope: Scope<'_>, args: &Items<Expr>) -> KindsFit
     ensures { result ≡ all_kinds_fit (classes_of scope.entry) (within scope.entry types_of_each args.now) }
@@ -197,6 +203,7 @@ fn all_kinds_fit(scope: Scope<'_>, args: &Items<Expr>) -> KindsFit
     fit
 }
 
+// The kinds that both have.
 fn both(one: KindsFit, other: KindsFit) -> KindsFit
     ensures { result ≡ both one other }
 {
@@ -246,6 +253,7 @@ fn some_kinds(scope: Scope<'_>, ty: Option<Ty>) -> KindsFit
     }
 }
 
+// Int or Long, whichever fits first.
 fn number_of(fit: KindsFit) -> Option<Ty>
     ensures { result ≡ first_that_fits numbers fit }
 {
@@ -258,6 +266,7 @@ fn number_of(fit: KindsFit) -> Option<Ty>
     }
 }
 
+// Whether the kind of a type is among those that fit.
 fn has(fit: KindsFit, ty: Ty) -> bool
     ensures { result ≡ has fit ty }
 {

@@ -17,6 +17,7 @@ pub(crate) fn field_type(classes: &[Class], class: u32, field: u32) -> Option<Ty
     }
 }
 
+// The type of a field, if it is there.
 fn type_of_field(fields: &[Field], field: u32) -> Option<Ty>
     ensures { result ≡ option_map (λ f. f.ty) (slice_get fields.now field) }
 {

@@ -136,6 +136,7 @@ pub(crate) fn cas_typed(
         && expr_fits(scope, new, Ty::Any)
 }
 
+// Whether a field is declared as Any.
 fn is_any_field(classes: &[Class], class: u32, field: u32) -> bool
     ensures { result ≡ is_any (unwrap_or (field_type classes.now class field) ty.Nothing) }
 {

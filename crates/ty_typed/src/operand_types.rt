@@ -67,6 +67,7 @@ fn shifted(scope: Scope<'_>, args: &Items<Expr>) -> bool
     args.len() == 2 && first_number(scope, args).is_some() && has_distance(scope, args)
 }
 
+// Whether the second operand of a shift is an Int.
 fn has_distance(scope: Scope<'_>, args: &Items<Expr>) -> bool
     ensures { result ≡ all_fit (classes_of scope.entry) (drop 1 (within scope.entry types_of_each args.now)) (ty.Int ∷ []) }
 {

@@ -55,6 +55,7 @@ pub fn pattern_holds(scope: Scope<'_>, pattern: &Pattern, looked: Looked<'_>) ->
     }
 }
 
+// Whether each part of alternatives holds.
 #[cycle(holding)]
 fn each_holds(scope: Scope<'_>, parts: &Items<Pattern>, looked: Looked<'_>) -> bool
     ensures { result ≡ list_all (λ part. part.holds (within scope.entry looked_types looked.entry)) (within scope.entry asks_of_each parts.now) }
@@ -67,6 +68,7 @@ fn each_holds(scope: Scope<'_>, parts: &Items<Pattern>, looked: Looked<'_>) -> b
     true
 }
 
+// Whether the parts of a pattern of a case class hold of the class parameters.
 #[cycle(holding)]
 fn made_of(scope: Scope<'_>, class: u32, parts: &Items<Pattern>) -> bool
     ensures { result ≡ within scope.entry made_of (within scope.entry asks_of_each parts.now) (param_types_at (classes_of scope.entry) class) }

@@ -55,6 +55,7 @@ pub(crate) fn local_type(locals: &[Ty], local: u32) -> Option<Ty>
     }
 }
 
+// The type of `this`, where there is one.
 fn this_type(this: Option<u32>) -> Option<Ty>
     ensures { result ≡ option_map ty.Class this }
 {

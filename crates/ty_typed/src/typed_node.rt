@@ -43,6 +43,7 @@ pub fn node_typed(scope: Scope<'_>, node: Node<'_>) -> bool
     }
 }
 
+// Whether the parts of an expression have the types that it wants.
 fn expr_typed(scope: Scope<'_>, e: &Expr) -> bool
     ensures { result ≡ within scope.entry expr_typed (out-Expr e.now) }
 {
@@ -105,6 +106,7 @@ fn expr_typed(scope: Scope<'_>, e: &Expr) -> bool
     }
 }
 
+// Whether the parts of a case have.
 fn case_typed(scope: Scope<'_>, c: &Case) -> bool
     ensures { result ≡ within scope.entry node_typed (CaseTree c.now) }
 {
@@ -114,6 +116,7 @@ fn case_typed(scope: Scope<'_>, c: &Case) -> bool
     }
 }
 
+// Whether the parts of a pattern have.
 fn pattern_typed(scope: Scope<'_>, pattern: &Pattern) -> bool
     ensures { result ≡ within scope.entry pattern_typed (out-Pattern pattern.now) }
 {
@@ -137,6 +140,7 @@ fn is_literal(e: &Expr) -> bool
     )
 }
 
+// Whether the parts of a constructor have.
 fn constructor_typed(scope: Scope<'_>, class: &Class) -> bool
     ensures { result ≡ within scope.entry node_typed (ConstructorTree class.now) }
 {

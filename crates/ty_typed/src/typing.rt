@@ -1,9 +1,8 @@
-//! Whether a program is typed where the locals of its classes have some types.
+//! Whether a class is typed where its locals have some types.
 
-ghost use Rattle.std.specs.Prelude.{◌≡◌, ◌↔◌, IsTrue, IfOk};
-ghost use Rattle.ty_typed.specs.Bodies.{AllBoth, CellTyped, MethodTyped, ClassTyped, ClassesTyped, TypedWith, this_of};
+ghost use Rattle.std.specs.Prelude.{◌≡◌, ◌↔◌, IsTrue};
+ghost use Rattle.ty_typed.specs.Bodies.{AllBoth, CellTyped, MethodTyped, ClassTyped, this_of};
 
-use crate::NoMemory;
 use crate::bodies::{constructor_typed, gives};
 use crate::class_locals::ClassLocals;
 use crate::scope::Scope;
@@ -12,34 +11,8 @@ use ty_prog::{Cell, Class, Method, Program, Ty};
 
 const NONE: [Ty; 0] = [];
 
-/// Whether the program is typed where the locals of its classes have these types. Errors: want of memory, for a
-/// program of 2^32 classes or more.
-pub fn is_typed_with(p: &Program, locals: &[ClassLocals]) -> Result<bool, NoMemory>
-    ensures { IfOk result (λ answer. IsTrue answer ↔ TypedWith p.now locals.now) }
-{
-    let mut classes = p.classes.as_slice();
-    let mut rest = locals;
-    let mut number = 0u32;
-    while let Some((class, more)) = classes.split_first() {
-        match rest.split_first() {
-            Some((first, behind)) => {
-                if !class_typed(p, number, class, first) {
-                    return Ok(false);
-                }
-                if number == u32::MAX {
-                    return Err(NoMemory);
-                }
-                number += 1;
-                classes = more;
-                rest = behind;
-            }
-            None => return Ok(false),
-        }
-    }
-    Ok(rest.is_empty())
-}
-
-fn class_typed(p: &Program, number: u32, class: &Class, locals: &ClassLocals) -> bool
+// Whether a class is typed where its locals have these types.
+pub(crate) fn class_typed(p: &Program, number: u32, class: &Class, locals: &ClassLocals) -> bool
     ensures { IsTrue result ↔ ClassTyped p.now number class.now locals.now }
 {
     let scope = Scope {
@@ -61,6 +34,7 @@ fn class_typed(p: &Program, number: u32, class: &Class, locals: &ClassLocals) ->
     )
 }
 
+// Whether its cells are.
 fn cells_typed(p: &Program, class: u32, cells: &[Cell], locals: &[Items<Ty>]) -> bool
     ensures { IsTrue result ↔ AllBoth (CellTyped p.now class) cells.now locals.now }
 {
@@ -81,6 +55,7 @@ fn cells_typed(p: &Program, class: u32, cells: &[Cell], locals: &[Items<Ty>]) ->
     rest.is_empty()
 }
 
+// Whether a cell is.
 fn cell_typed(p: &Program, class: u32, cell: &Cell, locals: &[Ty]) -> bool
     ensures { IsTrue result ↔ CellTyped p.now class cell.now locals.now }
 {
@@ -92,6 +67,7 @@ fn cell_typed(p: &Program, class: u32, cell: &Cell, locals: &[Ty]) -> bool
     gives(scope, &NONE, cell.locals, &cell.init, cell.ty)
 }
 
+// Whether its methods are.
 fn methods_typed(p: &Program, class: u32, methods: &[Method], locals: &[Items<Ty>]) -> bool
     ensures { IsTrue result ↔ AllBoth (MethodTyped p.now class) methods.now locals.now }
 {
@@ -112,6 +88,7 @@ fn methods_typed(p: &Program, class: u32, methods: &[Method], locals: &[Items<Ty
     rest.is_empty()
 }
 
+// Whether a method is.
 fn method_typed(p: &Program, class: u32, method: &Method, locals: &[Ty]) -> bool
     ensures { IsTrue result ↔ MethodTyped p.now class method.now locals.now }
 {
@@ -132,6 +109,7 @@ fn method_typed(p: &Program, class: u32, method: &Method, locals: &[Ty]) -> bool
     }
 }
 
+// The class of `this` in a method; a static method has none.
 fn this_of(class: u32, method: &Method) -> Option<u32>
     ensures { result ≡ this_of class method.now }
 {

@@ -1,1 +1,4 @@
 pub mod Lists
+pub mod Resting
+pub mod Fresh
+pub mod Joins

@@ -1,8 +1,9 @@
 //! New objects (JVMS 6.5: new).
 
 ghost use Rattle.std.specs.Prelude.{◌≡◌, ◌<◌, IfOk, map};
+ghost use Rattle.vm_native.specs.Acts.{Acts};
 ghost use Rattle.vm_state.specs.Heaps.{default, blank};
-ghost use Rattle.vm_state.specs.Shared.{Shares, IsPlain, make};
+ghost use Rattle.vm_state.specs.Shared.{make};
 
 use cf_link::{Linked, Slot, slots_of};
 use std::alloc::{AllocError, Global};
@@ -18,7 +19,7 @@ fn defaults(alloc: Global, slots: &[Slot]) -> Result<Seq<Value>, AllocError>
     Ok(fields)
 }
 
-fn blank(alloc: Global, k: &Linked, class: u32) -> Result<Object, AllocError>
+pub(crate) fn blank(alloc: Global, k: &Linked, class: u32) -> Result<Object, AllocError>
     ensures { IfOk result (λ o. o ≡ blank k.now class) }
 {
     Ok(Object {
@@ -30,8 +31,7 @@ fn blank(alloc: Global, k: &Linked, class: u32) -> Result<Object, AllocError>
 /// Makes an object of a class that may be used, and pushes it.
 pub fn make(alloc: Global, k: &Linked, h: &mut Heap, f: &mut Frame, class: u32) -> HeapEffect
     requires { f.old.pc < 65535 }
-    ensures shares { Shares (make k.now h.old f.old class) result h.old h.new f.old f.new }
-    ensures plain { IsPlain result }
+    ensures { Acts (make k.now h.old f.old class) result h.old h.new f.old f.new }
 {
     if !f.stack.fits(1) {
         return HeapEffect::Stuck(StuckKind::Stack);

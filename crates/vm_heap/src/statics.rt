@@ -2,13 +2,15 @@
 
 ghost use Rattle.std.specs.Prelude.{◌≡◌, ◌∷◌, ◌<◌, ◌≤◌, length, drop, slice_get, slice_set};
 ghost use Rattle.std.specs.Option.{option_copied};
+ghost use Rattle.vm_native.specs.Acts.{Acts};
 ghost use Rattle.vm_state.specs.Heaps.{static_at};
-ghost use Rattle.vm_state.specs.Shared.{Shares, IsPlain, got, get_static, fits_static, static_written, put_static};
+ghost use Rattle.vm_state.specs.Shared.{got, get_static, fits_static, static_written, put_static};
 
 use cf_link::{Linked, LinkedField, statics_of};
 use vm_state::{Effect, Frame, Heap, HeapEffect, Seq, StuckKind, Value, pop_off, push};
 
-fn static_at(h: &Heap, class: u32, n: u32) -> Option<Value>
+/// What a static holds.
+pub fn static_at(h: &Heap, class: u32, n: u32) -> Option<Value>
     ensures { result ≡ static_at h.now class n }
 {
     match h.statics.get(class as usize) {
@@ -23,8 +25,7 @@ fn static_at(h: &Heap, class: u32, n: u32) -> Option<Value>
 /// Pushes what a static holds.
 fn read(h: &Heap, f: &mut Frame, v: Option<Value>) -> HeapEffect
     requires { f.old.pc < 65535 }
-    ensures shares { Shares (got h.now f.old f.old.stack.values v) result h.now h.now f.old f.new }
-    ensures plain { IsPlain result }
+    ensures { Acts (got h.now f.old f.old.stack.values v) result h.now h.now f.old f.new }
 {
     match v {
         None => HeapEffect::Stuck(StuckKind::WrongKind),
@@ -39,14 +40,13 @@ fn read(h: &Heap, f: &mut Frame, v: Option<Value>) -> HeapEffect
 /// Pushes a static.
 pub fn get_static(h: &Heap, f: &mut Frame, class: u32, n: u32) -> HeapEffect
     requires { f.old.pc < 65535 }
-    ensures shares { Shares (get_static h.now f.old class n) result h.now h.now f.old f.new }
-    ensures plain { IsPlain result }
+    ensures { Acts (get_static h.now f.old class n) result h.now h.now f.old f.new }
 {
     read(h, f, static_at(h, class, n))
 }
 
 /// Whether a value is of the kind of a static.
-fn fits_static(field: Option<&LinkedField>, v: Value) -> bool
+pub fn fits_static(field: Option<&LinkedField>, v: Value) -> bool
     ensures { result ≡ fits_static (option_copied field.entry) v }
 {
     match field {
@@ -64,8 +64,7 @@ fn set(statics: &mut Seq<Value>, n: u32, v: Value)
 
 fn write(h: &mut Heap, f: &mut Frame, class: u32, n: u32, v: Value) -> HeapEffect
     requires { f.old.pc < 65535 }
-    ensures shares { Shares (static_written h.old f.old class n v (drop 1 f.old.stack.values) (slice_get h.old.statics class)) result h.old h.new f.old f.new }
-    ensures plain { IsPlain result }
+    ensures { Acts (static_written h.old f.old class n v (drop 1 f.old.stack.values) (slice_get h.old.statics class)) result h.old h.new f.old f.new }
 {
     match h.statics.get(class as usize) {
         None => return HeapEffect::Stuck(StuckKind::WrongKind),
@@ -83,8 +82,7 @@ fn write(h: &mut Heap, f: &mut Frame, class: u32, n: u32, v: Value) -> HeapEffec
 /// Stores the value on top into a static.
 pub fn put_static(k: &Linked, h: &mut Heap, f: &mut Frame, class: u32, n: u32) -> HeapEffect
     requires { f.old.pc < 65535 }
-    ensures shares { Shares (put_static k.now h.old f.old class n f.old.stack.values) result h.old h.new f.old f.new }
-    ensures plain { IsPlain result }
+    ensures { Acts (put_static k.now h.old f.old class n f.old.stack.values) result h.old h.new f.old f.new }
 {
     match f.stack.top() {
         None => HeapEffect::Stuck(StuckKind::Stack),

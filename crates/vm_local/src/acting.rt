@@ -18,7 +18,7 @@ use crate::moves::{dup, pop, swap};
 use cf_form::{Code, Instr};
 use cf_link::Linked;
 use vm_state::{
-    Action, Effect, Frame, StuckKind, Value, action_of, go, instr_at, instr_in, place, push,
+    Action, Effect, Frame, StuckKind, Value, action_of, as_index, go, instr_at, instr_in, push,
     ref_at, skip,
 };
 
@@ -35,18 +35,18 @@ pub fn act(k: &Linked, f: &mut Frame, i: Instr, action: Action) -> Effect
         Action::PushLong(n) => push(f, Value::Long(n)),
         Action::PushOperand => push(f, Value::Int(i.a)),
         Action::PushConstant => constant(f, ref_at(k, f.class, i.a)),
-        Action::Load(kind) => match place(i.a) {
+        Action::Load(kind) => match as_index(i.a) {
             None => Effect::Stuck(StuckKind::LocalOut),
             Some(n) => load(f, kind, n),
         },
         Action::LoadAt(kind, n) => load(f, kind, n),
-        Action::Store(kind) => match place(i.a) {
+        Action::Store(kind) => match as_index(i.a) {
             None => Effect::Stuck(StuckKind::LocalOut),
             Some(n) => store(f, kind, n),
         },
         Action::StoreAt(kind, n) => store(f, kind, n),
-        Action::Pop(places) => pop(f, places),
-        Action::Dup(places, under) => dup(f, places, under),
+        Action::Pop(units) => pop(f, units),
+        Action::Dup(units, under) => dup(f, units, under),
         Action::Swap => swap(f),
         Action::Ints(op) => ints(f, op),
         Action::Longs(op) => longs(f, op),
@@ -55,7 +55,7 @@ pub fn act(k: &Linked, f: &mut Frame, i: Instr, action: Action) -> Effect
         Action::LongDivide(division) => long_divide(f, division),
         Action::IntNegate => int_negate(f),
         Action::LongNegate => long_negate(f),
-        Action::Increment => match place(i.a) {
+        Action::Increment => match as_index(i.a) {
             None => Effect::Stuck(StuckKind::LocalOut),
             Some(n) => increment(f, n, i.b),
         },

@@ -7,6 +7,7 @@ ghost use Rattle.vm_state.specs.Instructions.{Does, ints, longs, long_shift, int
 use sl_num::{IntOp, int, int_div, int_rem, long, long_div, long_rem};
 use vm_state::{Division, Effect, Frame, StuckKind, Value};
 
+/// An operation on the top two Ints.
 #[inline(always)]
 pub fn ints(f: &mut Frame, op: IntOp) -> Effect
     requires { f.old.pc < 65535 }
@@ -25,6 +26,7 @@ pub fn ints(f: &mut Frame, op: IntOp) -> Effect
     }
 }
 
+/// An operation on the top two Longs.
 #[inline(always)]
 pub fn longs(f: &mut Frame, op: IntOp) -> Effect
     requires { f.old.pc < 65535 }
@@ -84,6 +86,7 @@ fn long_divided(division: Division, a: i64, b: i64) -> Option<i64>
     }
 }
 
+/// A division of the top two Ints; by zero an exception is made.
 #[inline(always)]
 pub fn int_divide(f: &mut Frame, division: Division) -> Effect
     requires { f.old.pc < 65535 }
@@ -105,6 +108,7 @@ pub fn int_divide(f: &mut Frame, division: Division) -> Effect
     }
 }
 
+/// A division of the top two Longs; by zero an exception is made.
 #[inline(always)]
 pub fn long_divide(f: &mut Frame, division: Division) -> Effect
     requires { f.old.pc < 65535 }
@@ -126,6 +130,7 @@ pub fn long_divide(f: &mut Frame, division: Division) -> Effect
     }
 }
 
+/// The negative of the top Int.
 #[inline(always)]
 pub fn int_negate(f: &mut Frame) -> Effect
     requires { f.old.pc < 65535 }
@@ -145,6 +150,7 @@ pub fn int_negate(f: &mut Frame) -> Effect
     }
 }
 
+/// The negative of the top Long.
 #[inline(always)]
 pub fn long_negate(f: &mut Frame) -> Effect
     requires { f.old.pc < 65535 }
@@ -164,6 +170,7 @@ pub fn long_negate(f: &mut Frame) -> Effect
     }
 }
 
+/// The top Int as a Long.
 #[inline(always)]
 pub fn widen(f: &mut Frame) -> Effect
     requires { f.old.pc < 65535 }
@@ -196,6 +203,7 @@ fn low_bits(n: i64) -> i32
     ((n as i128 + 2147483648).rem_euclid(4294967296) - 2147483648) as i32
 }
 
+/// The low 32 bits of the top Long as an Int.
 #[inline(always)]
 pub fn narrow(f: &mut Frame) -> Effect
     requires { f.old.pc < 65535 }
@@ -215,6 +223,7 @@ pub fn narrow(f: &mut Frame) -> Effect
     }
 }
 
+// How two numbers compare: -1, 0 or 1.
 #[inline(always)]
 fn order_of(a: i64, b: i64) -> i32
     ensures { result ≡ order_of a b }
@@ -228,6 +237,7 @@ fn order_of(a: i64, b: i64) -> i32
     }
 }
 
+/// How the top two Longs compare, as an Int.
 #[inline(always)]
 pub fn compare_longs(f: &mut Frame) -> Effect
     requires { f.old.pc < 65535 }

@@ -1,16 +1,15 @@
-//! Many local steps of a thread.
+//! Parts of many local steps of a thread.
 
-ghost use Rattle.std.specs.Prelude.{◌≡◌, ◌<◌, ◌≤◌, length, None, Some};
+ghost use Rattle.std.specs.Prelude.{◌≡◌, ◌<◌, length, None, Some};
 ghost use Rattle.vm_state.specs.Local.{IsLocal, local_step};
-ghost use Rattle.vm_local.specs.Batches.{AllLocal, locals_after, IsCut, LeavesTop, Tells, counted, settled_top, top_code};
+ghost use Rattle.vm_local.specs.Batches.{AllLocal, locals_after, IsCut, LeavesTop, counted, settled_top, top_code};
 
-use crate::local_step::local;
 use crate::running::{Ran, run_frame};
 use crate::settling::settle;
 use cf_form::Code;
 use cf_link::Linked;
 use std::alloc::Global;
-use vm_state::{Effect, LocalStep, Thread, code_of};
+use vm_state::{Effect, LocalStep, Thread};
 
 /// How many local steps were made, and what the next one is, where that is known.
 #[derive(Clone, Copy, Debug)]
@@ -19,39 +18,8 @@ pub struct Batch {
     pub step: LocalStep,
 }
 
-/// One step.
-fn one(alloc: Global, k: &Linked, t: &mut Thread) -> Batch
-    ensures few { result.count ≤ 1 }
-    ensures all { AllLocal k.now result.count t.old }
-    ensures thread { t.new ≡ locals_after k.now result.count t.old }
-    ensures next { Tells k.now t.new result.step }
-{
-    match local(alloc, k, t) {
-        LocalStep::Stepped => Batch {
-            count: 1,
-            step: LocalStep::Stepped,
-        },
-        LocalStep::AtHeap => Batch {
-            count: 0,
-            step: LocalStep::AtHeap,
-        },
-        LocalStep::Ended => Batch {
-            count: 0,
-            step: LocalStep::Ended,
-        },
-        LocalStep::Stuck(kind) => Batch {
-            count: 0,
-            step: LocalStep::Stuck(kind),
-        },
-        LocalStep::Memory => Batch {
-            count: 0,
-            step: LocalStep::Memory,
-        },
-    }
-}
-
 /// The steps that stay in the innermost frame.
-fn run_top(k: &Linked, code: &Code, t: &mut Thread, most: u32) -> Ran
+pub(crate) fn run_top(k: &Linked, code: &Code, t: &mut Thread, most: u32) -> Ran
     requires frames { 0 < length t.old.frames }
     requires code { top_code k.now t.old.frames ≡ Some code.now }
     requires thrown { t.old.thrown ≡ None }
@@ -65,7 +33,7 @@ fn run_top(k: &Linked, code: &Code, t: &mut Thread, most: u32) -> Ran
 }
 
 /// The step of a thread whose innermost frame is left so.
-fn leave(alloc: Global, k: &Linked, t: &mut Thread, effect: Effect) -> LocalStep
+pub(crate) fn leave(alloc: Global, k: &Linked, t: &mut Thread, effect: Effect) -> LocalStep
     requires frames { 0 < length t.old.frames }
     requires leaves { local_step k.now t.old ≡ settled_top k.now t.old t.old.frames effect }
     ensures { IsLocal (local_step k.now t.old) result t.old t.new }
@@ -74,7 +42,7 @@ fn leave(alloc: Global, k: &Linked, t: &mut Thread, effect: Effect) -> LocalStep
 }
 
 /// The batch of so many steps, and of one more where it was made.
-fn counted(count: u32, step: LocalStep) -> Batch
+pub(crate) fn counted(count: u32, step: LocalStep) -> Batch
     requires { count < 4294967295 }
     ensures count { result.count ≡ counted count step }
     ensures step { result.step ≡ step }
@@ -85,40 +53,5 @@ fn counted(count: u32, step: LocalStep) -> Batch
             step,
         },
         _ => Batch { count, step },
-    }
-}
-
-/// Makes up to so many local steps: those that stay in the innermost frame, and the one that leaves it.
-pub fn run_some(alloc: Global, k: &Linked, t: &mut Thread, most: u32) -> Batch
-    ensures few { result.count ≤ most }
-    ensures all { AllLocal k.now result.count t.old }
-    ensures thread { t.new ≡ locals_after k.now result.count t.old }
-    ensures next { Tells k.now t.new result.step }
-{
-    if most == 0 {
-        return Batch {
-            count: 0,
-            step: LocalStep::Stepped,
-        };
-    }
-    if t.thrown.is_some() {
-        return one(alloc, k, t);
-    }
-    let Some(f) = t.frames.top() else {
-        return one(alloc, k, t);
-    };
-    let Some(code) = code_of(k, f.class, f.method) else {
-        return one(alloc, k, t);
-    };
-    let ran = run_top(k, code, t, most);
-    match ran.left {
-        None => Batch {
-            count: ran.count,
-            step: LocalStep::Stepped,
-        },
-        Some(effect) => {
-            let step = leave(alloc, k, t, effect);
-            counted(ran.count, step)
-        }
     }
 }

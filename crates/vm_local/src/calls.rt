@@ -13,6 +13,7 @@ use vm_state::{
     Effect, Frame, Invocation, StuckKind, Target, Value, are_arguments, class_of, ref_at, selection,
 };
 
+// Calls a method with code; one that is built in is a heap step.
 #[inline(always)]
 fn aim(f: &Frame, target: Target, count: usize, m: Option<&LinkedMethod>) -> Effect
     ensures { Does (aimed f.now target count (option_copied m.entry)) result f.now f.now }
@@ -29,6 +30,7 @@ fn aim(f: &Frame, target: Target, count: usize, m: Option<&LinkedMethod>) -> Eff
     }
 }
 
+// Calls the selected method.
 #[inline(always)]
 fn select(k: &Linked, f: &Frame, count: usize, found: Option<(u32, u32)>) -> Effect
     ensures { Does (selected k.now f.now count found) result f.now f.now }
@@ -47,6 +49,7 @@ fn select(k: &Linked, f: &Frame, count: usize, found: Option<(u32, u32)>) -> Eff
     }
 }
 
+// Calls on this value; on null an exception is made.
 #[inline(always)]
 fn receive(
     k: &Linked,
@@ -66,6 +69,7 @@ fn receive(
     select(k, f, count, found)
 }
 
+// Calls a method on the object below its arguments.
 #[inline(always)]
 fn invoke_on(
     k: &Linked,
@@ -92,6 +96,7 @@ fn invoke_on(
     }
 }
 
+// Calls what a reference resolves to.
 #[inline(always)]
 fn invoke_ref(k: &Linked, f: &Frame, how: Invocation, r: Option<LinkedRef>) -> Effect
     ensures { Does (invoked k.now f.now how r) result f.now f.now }

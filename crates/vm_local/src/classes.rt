@@ -23,6 +23,7 @@ pub fn constant(f: &mut Frame, r: Option<LinkedRef>) -> Effect
     }
 }
 
+// Goes on with null, or an object that conforms; else an exception is made.
 fn cast(k: &Linked, f: &mut Frame, class: u32, v: Value) -> Effect
     requires { f.old.pc < 65535 }
     ensures { Does (cast k.now f.old class v) result f.old f.new }
@@ -34,6 +35,7 @@ fn cast(k: &Linked, f: &mut Frame, class: u32, v: Value) -> Effect
     }
 }
 
+// Casts a value to what an index resolves to.
 fn class_cast(k: &Linked, f: &mut Frame, v: Value, r: Option<LinkedRef>) -> Effect
     requires { f.old.pc < 65535 }
     ensures { Does (class_cast k.now f.old v r) result f.old f.new }
@@ -65,6 +67,7 @@ pub fn check_cast(k: &Linked, f: &mut Frame, a: i32) -> Effect
     }
 }
 
+// Whether the value is an `Evaluating`.
 fn is_evaluating(v: Value) -> bool
     ensures { result ≡ is_evaluating v }
 {
@@ -74,6 +77,7 @@ fn is_evaluating(v: Value) -> bool
     }
 }
 
+// Whether the value is a `Latch`.
 fn is_latch(v: Value) -> bool
     ensures { result ≡ is_latch v }
 {
@@ -96,6 +100,7 @@ fn is_instance(k: &Linked, v: Value, class: u32) -> bool
     }
 }
 
+// A truth value as an Int.
 #[inline(always)]
 fn truth(b: bool) -> Value
     ensures { result ≡ truth b }
@@ -115,6 +120,7 @@ fn replace(f: &mut Frame, v: Value, b: bool) -> Effect
     Effect::Done
 }
 
+// Tests a value for what an index resolves to.
 fn class_tested(k: &Linked, f: &mut Frame, v: Value, r: Option<LinkedRef>) -> Effect
     requires pc { f.old.pc < 65535 }
     requires top { f.old.stack.values ≡ v ∷ drop 1 f.old.stack.values }

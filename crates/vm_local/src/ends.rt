@@ -9,6 +9,7 @@ use cf_link::built_in::THROWABLE;
 use cf_link::{Linked, LinkedMethod, ValueKind, conforms};
 use vm_state::{Effect, Frame, StuckKind, Value, is_result, method_of};
 
+// Whether a result, or none, is of the kind of the method's result.
 #[inline(always)]
 fn fits_method(m: Option<&LinkedMethod>, v: Option<Value>) -> bool
     ensures { result ≡ fits_method (option_copied m.entry) v }

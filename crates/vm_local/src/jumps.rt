@@ -6,6 +6,7 @@ ghost use Rattle.vm_state.specs.Instructions.{Does, holds, if_zero, if_ints, if_
 use cf_link::ValueKind;
 use vm_state::{Comparison, Effect, Frame, StuckKind, branch};
 
+/// Whether a comparison holds of two numbers.
 #[inline(always)]
 pub fn holds(comparison: Comparison, a: i32, b: i32) -> bool
     ensures { result ≡ holds comparison a b }
@@ -20,6 +21,7 @@ pub fn holds(comparison: Comparison, a: i32, b: i32) -> bool
     }
 }
 
+/// Jumps where the top operand compares so with 0.
 #[inline(always)]
 pub fn if_zero(f: &mut Frame, comparison: Comparison, a: i32) -> Effect
     requires { f.old.pc < 65535 }
@@ -34,6 +36,7 @@ pub fn if_zero(f: &mut Frame, comparison: Comparison, a: i32) -> Effect
     }
 }
 
+/// Jumps where the top two operands compare so.
 #[inline(always)]
 pub fn if_ints(f: &mut Frame, comparison: Comparison, a: i32) -> Effect
     requires { f.old.pc < 65535 }
@@ -48,6 +51,7 @@ pub fn if_ints(f: &mut Frame, comparison: Comparison, a: i32) -> Effect
     }
 }
 
+/// Jumps where the top two operands are the same, or aren't; two texts are compared on the heap.
 #[inline(always)]
 pub fn if_same(f: &mut Frame, wanted: bool, a: i32) -> Effect
     requires { f.old.pc < 65535 }
@@ -68,6 +72,7 @@ pub fn if_same(f: &mut Frame, wanted: bool, a: i32) -> Effect
     }
 }
 
+/// Jumps where the top operand is null, or isn't.
 #[inline(always)]
 pub fn if_null(f: &mut Frame, wanted: bool, a: i32) -> Effect
     requires { f.old.pc < 65535 }

@@ -8,7 +8,7 @@ use cf_link::ValueKind;
 use sl_num::{IntOp, int};
 use vm_state::{Effect, Frame, StuckKind, Value, kind_width, push};
 
-/// Pushes a Long that stands at these two places.
+/// Pushes a Long that takes these two local variables (JVMS 2.6.1).
 #[inline(always)]
 fn load_long(f: &mut Frame, n: u32) -> Effect
     requires { f.old.pc < 65535 }
@@ -27,7 +27,7 @@ fn load_long(f: &mut Frame, n: u32) -> Effect
     }
 }
 
-/// Pushes a value of one place.
+/// Pushes a value of category 1 (JVMS 2.11.1).
 #[inline(always)]
 fn load_one(f: &mut Frame, kind: ValueKind, n: u32) -> Effect
     requires { f.old.pc < 65535 }

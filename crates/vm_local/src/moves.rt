@@ -2,14 +2,15 @@
 
 ghost use Rattle.std.specs.Prelude.{◌≡◌, [], ◌∷◌, ◌+◌, ◌++◌, ◌<◌, ◌≤◌, length, take, drop, IfSome};
 ghost use Rattle.vm_state.specs.Values.{width, depth};
-ghost use Rattle.vm_state.specs.Instructions.{Does, one_place, two_places, whole, with_copies, pop, dup, dupped, dupped_under, swap};
+ghost use Rattle.vm_state.specs.Instructions.{Does, one_unit, two_units, whole, with_copies, pop, dup, dupped, dupped_under, swap};
 
 use cf_link::ValueKind;
 use vm_state::{Effect, Frame, Operands, StuckKind, Value};
 
+// How many values the unit is that begins with this operand: one; None where it is half of a Long.
 #[inline(always)]
-fn one_place(v: Option<Value>) -> Option<usize>
-    ensures { result ≡ one_place v }
+fn one_unit(v: Option<Value>) -> Option<usize>
+    ensures { result ≡ one_unit v }
 {
     match v {
         None => None,
@@ -23,9 +24,10 @@ fn one_place(v: Option<Value>) -> Option<usize>
     }
 }
 
+// How many values the two units are that begin with these operands; None where half of a Long.
 #[inline(always)]
-fn two_places(v: Option<Value>, w: Option<Value>) -> Option<usize>
-    ensures { result ≡ two_places v w }
+fn two_units(v: Option<Value>, w: Option<Value>) -> Option<usize>
+    ensures { result ≡ two_units v w }
 {
     match v {
         None => None,
@@ -33,7 +35,7 @@ fn two_places(v: Option<Value>, w: Option<Value>) -> Option<usize>
             if v.is_kind(ValueKind::Long) {
                 Some(1)
             } else {
-                match one_place(w) {
+                match one_unit(w) {
                     None => None,
                     Some(_) => Some(2),
                 }
@@ -42,32 +44,32 @@ fn two_places(v: Option<Value>, w: Option<Value>) -> Option<usize>
     }
 }
 
-/// How many values these places are, from the operand with this number on.
+/// How many values these units of depth are (JVMS 2.6.2), from the operand with this number on.
 #[inline(always)]
-fn whole(stack: &Operands, places: u32, from: usize) -> Option<usize>
+fn whole(stack: &Operands, units: u32, from: usize) -> Option<usize>
     requires { from < 3 }
-    ensures value { result ≡ whole places stack.now.values from }
+    ensures value { result ≡ whole units stack.now.values from }
     ensures few { IfSome result (λ count. count < 3) }
 {
-    if places == 1 {
-        one_place(stack.get(from))
-    } else if places == 2 {
-        two_places(stack.get(from), stack.get(from + 1))
+    if units == 1 {
+        one_unit(stack.get(from))
+    } else if units == 2 {
+        two_units(stack.get(from), stack.get(from + 1))
     } else {
         Some(0)
     }
 }
 
-/// Takes the top places off.
+/// Takes the top units off.
 #[inline(always)]
-pub fn pop(f: &mut Frame, places: u32) -> Effect
+pub fn pop(f: &mut Frame, units: u32) -> Effect
     requires { f.old.pc < 65535 }
-    ensures { Does (pop places f.old f.old.stack.values) result f.old f.new }
+    ensures { Does (pop units f.old f.old.stack.values) result f.old f.new }
 {
-    if !f.stack.is_deep(places as usize) {
+    if !f.stack.is_deep(units as usize) {
         return Effect::Stuck(StuckKind::Stack);
     }
-    match whole(&f.stack, places, 0) {
+    match whole(&f.stack, units, 0) {
         None => Effect::Stuck(StuckKind::WrongKind),
         Some(count) => {
             f.stack.take_off(count);
@@ -132,18 +134,19 @@ fn copy(stack: &mut Operands, count: usize, under: usize)
     }
 }
 
+// Copies so many values below more of them.
 #[inline(always)]
-fn dup_under(f: &mut Frame, places: u32, count: usize, more: Option<usize>) -> Effect
+fn dup_under(f: &mut Frame, units: u32, count: usize, more: Option<usize>) -> Effect
     requires pc { f.old.pc < 65535 }
-    requires count { depth (take count f.old.stack.values) ≤ places }
+    requires count { depth (take count f.old.stack.values) ≤ units }
     requires few { count < 3 }
     requires more { IfSome more (λ more. (more < 3) × (count + more ≤ length f.old.stack.values)) }
-    ensures { Does (dupped_under f.old f.old.stack.values places count more) result f.old f.new }
+    ensures { Does (dupped_under f.old f.old.stack.values units count more) result f.old f.new }
 {
     match more {
         None => Effect::Stuck(StuckKind::WrongKind),
         Some(more) => {
-            if f.stack.fits(places as usize) {
+            if f.stack.fits(units as usize) {
                 copy(&mut f.stack, count, count + more);
                 f.pc += 1;
                 Effect::Done
@@ -154,20 +157,20 @@ fn dup_under(f: &mut Frame, places: u32, count: usize, more: Option<usize>) -> E
     }
 }
 
-/// Copies the top places below the next ones.
+/// Copies the top units below the next ones.
 #[inline(always)]
-pub fn dup(f: &mut Frame, places: u32, under: u32) -> Effect
+pub fn dup(f: &mut Frame, units: u32, under: u32) -> Effect
     requires { f.old.pc < 65535 }
-    ensures { Does (dup places under f.old f.old.stack.values) result f.old f.new }
+    ensures { Does (dup units under f.old f.old.stack.values) result f.old f.new }
 {
-    if !f.stack.is_deep(places as usize + under as usize) {
+    if !f.stack.is_deep(units as usize + under as usize) {
         return Effect::Stuck(StuckKind::Stack);
     }
-    match whole(&f.stack, places, 0) {
+    match whole(&f.stack, units, 0) {
         None => Effect::Stuck(StuckKind::WrongKind),
         Some(count) => {
             let more = whole(&f.stack, under, count);
-            dup_under(f, places, count, more)
+            dup_under(f, units, count, more)
         }
     }
 }

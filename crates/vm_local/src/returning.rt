@@ -6,6 +6,7 @@ ghost use Rattle.vm_state.specs.Local.{IsLocal, has_room, resumed, returned, end
 use cf_link::Linked;
 use vm_state::{Frame, LocalStep, StuckKind, Thread, Value, is_initialiser};
 
+// Whether a result fits the operands of a frame.
 #[inline(always)]
 fn has_room(g: &Frame, v: Option<Value>) -> bool
     ensures { result ≡ has_room g.now v }
@@ -16,6 +17,7 @@ fn has_room(g: &Frame, v: Option<Value>) -> bool
     }
 }
 
+// The caller goes on behind its call, with the result.
 #[inline(always)]
 fn resume(g: &mut Frame, v: Option<Value>)
     requires pc { g.old.pc < 65535 }

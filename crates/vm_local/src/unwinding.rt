@@ -11,6 +11,7 @@ use vm_state::{
     Frame, LocalStep, StuckKind, Thread, Value, class_of, code_of, is_initialiser, ref_at,
 };
 
+// Whether a handler with this class takes an exception.
 fn takes(k: &Linked, e: Value, r: Option<LinkedRef>) -> bool
     ensures { result ≡ takes k.now e r }
 {
@@ -20,6 +21,7 @@ fn takes(k: &Linked, e: Value, r: Option<LinkedRef>) -> bool
     }
 }
 
+// Whether a handler's range holds the instruction, and its class fits.
 fn covers(k: &Linked, f: &Frame, e: Value, h: Handler) -> bool
     ensures { result ≡ covers k.now f.now e h }
 {
@@ -40,6 +42,7 @@ fn handler(k: &Linked, f: &Frame, e: Value, handlers: &[Handler]) -> Option<u32>
     None
 }
 
+// The target of the first handler that covers the instruction where a frame stands.
 fn handler_at(k: &Linked, f: &Frame, e: Value) -> Option<u32>
     ensures { result ≡ handler k.now f.now e (handlers_of (code_of k.now f.now.class f.now.method)) }
 {
@@ -49,6 +52,7 @@ fn handler_at(k: &Linked, f: &Frame, e: Value) -> Option<u32>
     }
 }
 
+// Goes on at a handler, with the exception alone on the operand stack, where there is room.
 fn catch(f: &mut Frame, e: Value, target: u32) -> bool
     ensures fits { result ≡ nat_le (width e) f.old.stack.room }
     ensures frame { f.new ≡ (if nat_le (width e) f.old.stack.room then caught f.old e target else f.old) }

@@ -80,3 +80,11 @@ false_chars = refl
 pub unit_chars : chars (codes "()") ≡ codes "()"
 unfolding chars
 unit_chars = refl
+
+pub colon_chars : chars (codes ": ") ≡ codes ": "
+unfolding chars
+colon_chars = refl
+
+pub object_chars : chars (codes "Ljava/lang/Object;") ≡ codes "Ljava/lang/Object;"
+unfolding chars
+object_chars = refl

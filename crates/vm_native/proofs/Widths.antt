@@ -1,4 +1,4 @@
--- Each value takes a place.
+-- Each value takes a unit.
 use Rattle.std.proofs.Common.{◌≤◌, arith}
 use Rattle.vm_state.specs.Values.{width}
 use Rattle.vm_state.specs.declared.value.Value.{Value}

@@ -2,7 +2,7 @@
 
 ghost use Rattle.std.specs.Prelude.{◌≡◌, ◌<◌};
 ghost use Rattle.vm_state.specs.Natives.{box_int, box_long, box_boolean, unbox_int, unbox_long, unbox_boolean};
-ghost use Rattle.vm_state.specs.Shared.{Shares};
+ghost use Rattle.vm_native.specs.Acts.{Acts};
 
 use crate::results::{give_one, truth};
 use cf_link::built_in::CLASS_CAST_EXCEPTION;
@@ -11,7 +11,7 @@ use vm_state::{Frame, Heap, HeapEffect, StuckKind, Value};
 /// `boxInt(I)O`
 pub fn box_int(h: &Heap, f: &mut Frame) -> HeapEffect
     requires { f.old.pc < 65535 }
-    ensures { Shares (box_int h.now f.old f.old.stack.values) result h.now h.now f.old f.new }
+    ensures { Acts (box_int h.now f.old f.old.stack.values) result h.now h.now f.old f.new }
 {
     match f.stack.top() {
         None => HeapEffect::Stuck(StuckKind::Stack),
@@ -23,7 +23,7 @@ pub fn box_int(h: &Heap, f: &mut Frame) -> HeapEffect
 /// `boxLong(J)O`
 pub fn box_long(h: &Heap, f: &mut Frame) -> HeapEffect
     requires { f.old.pc < 65535 }
-    ensures { Shares (box_long h.now f.old f.old.stack.values) result h.now h.now f.old f.new }
+    ensures { Acts (box_long h.now f.old f.old.stack.values) result h.now h.now f.old f.new }
 {
     match f.stack.top() {
         None => HeapEffect::Stuck(StuckKind::Stack),
@@ -35,7 +35,7 @@ pub fn box_long(h: &Heap, f: &mut Frame) -> HeapEffect
 /// `boxBoolean(Z)O`
 pub fn box_boolean(h: &Heap, f: &mut Frame) -> HeapEffect
     requires { f.old.pc < 65535 }
-    ensures { Shares (box_boolean h.now f.old f.old.stack.values) result h.now h.now f.old f.new }
+    ensures { Acts (box_boolean h.now f.old f.old.stack.values) result h.now h.now f.old f.new }
 {
     match f.stack.top() {
         None => HeapEffect::Stuck(StuckKind::Stack),
@@ -47,7 +47,7 @@ pub fn box_boolean(h: &Heap, f: &mut Frame) -> HeapEffect
 /// `unboxInt(O)I`
 pub fn unbox_int(h: &Heap, f: &mut Frame) -> HeapEffect
     requires { f.old.pc < 65535 }
-    ensures { Shares (unbox_int h.now f.old f.old.stack.values) result h.now h.now f.old f.new }
+    ensures { Acts (unbox_int h.now f.old f.old.stack.values) result h.now h.now f.old f.new }
 {
     match f.stack.top() {
         None => HeapEffect::Stuck(StuckKind::Stack),
@@ -60,7 +60,7 @@ pub fn unbox_int(h: &Heap, f: &mut Frame) -> HeapEffect
 /// `unboxLong(O)J`
 pub fn unbox_long(h: &Heap, f: &mut Frame) -> HeapEffect
     requires { f.old.pc < 65535 }
-    ensures { Shares (unbox_long h.now f.old f.old.stack.values) result h.now h.now f.old f.new }
+    ensures { Acts (unbox_long h.now f.old f.old.stack.values) result h.now h.now f.old f.new }
 {
     match f.stack.top() {
         None => HeapEffect::Stuck(StuckKind::Stack),
@@ -73,7 +73,7 @@ pub fn unbox_long(h: &Heap, f: &mut Frame) -> HeapEffect
 /// `unboxBoolean(O)Z`
 pub fn unbox_boolean(h: &Heap, f: &mut Frame) -> HeapEffect
     requires { f.old.pc < 65535 }
-    ensures { Shares (unbox_boolean h.now f.old f.old.stack.values) result h.now h.now f.old f.new }
+    ensures { Acts (unbox_boolean h.now f.old f.old.stack.values) result h.now h.now f.old f.new }
 {
     match f.stack.top() {
         None => HeapEffect::Stuck(StuckKind::Stack),

@@ -3,7 +3,7 @@
 ghost use Rattle.std.specs.Prelude.{◌≡◌, ◌∷◌, ◌+◌, ◌<◌, ◌≤◌, drop, length, codes, IfOk};
 ghost use Rattle.vm_state.specs.Values.{width, depth};
 ghost use Rattle.vm_state.specs.Natives.{gives_text, class_text, kind_of};
-ghost use Rattle.vm_state.specs.Shared.{Shares};
+ghost use Rattle.vm_native.specs.Acts.{Acts};
 
 use crate::names::class_text;
 use cf_link::Linked;
@@ -16,7 +16,7 @@ use vm_state::{Frame, Heap, HeapEffect, StuckKind, Value, class_of};
 pub(crate) fn give_text(h: &mut Heap, f: &mut Frame, text: Name) -> HeapEffect
     requires pc { f.old.pc < 65535 }
     requires some { 0 < length f.old.stack.values }
-    ensures { Shares (gives_text h.old f.old (drop 1 f.old.stack.values) text) result h.old h.new f.old f.new }
+    ensures { Acts (gives_text h.old f.old (drop 1 f.old.stack.values) text) result h.old h.new f.old f.new }
 {
     let at = h.texts.len();
     if at >= 4294967295 {
@@ -34,7 +34,7 @@ pub(crate) fn give_text(h: &mut Heap, f: &mut Frame, text: Name) -> HeapEffect
 fn give_class(alloc: Global, k: &Linked, h: &mut Heap, f: &mut Frame, class: u32) -> HeapEffect
     requires pc { f.old.pc < 65535 }
     requires some { 0 < length f.old.stack.values }
-    ensures { Shares (gives_text h.old f.old (drop 1 f.old.stack.values) (class_text k.now class)) result h.old h.new f.old f.new }
+    ensures { Acts (gives_text h.old f.old (drop 1 f.old.stack.values) (class_text k.now class)) result h.old h.new f.old f.new }
 {
     match class_text(alloc, k, class) {
         Err(_) => HeapEffect::Memory,
@@ -49,10 +49,10 @@ fn null_text(alloc: Global) -> Result<Name, NoMemory>
     Ok(Name::from_text(alloc, "null")?)
 }
 
-fn give_null(alloc: Global, h: &mut Heap, f: &mut Frame) -> HeapEffect
+pub(crate) fn give_null(alloc: Global, h: &mut Heap, f: &mut Frame) -> HeapEffect
     requires pc { f.old.pc < 65535 }
     requires some { 0 < length f.old.stack.values }
-    ensures { Shares (gives_text h.old f.old (drop 1 f.old.stack.values) (codes "null")) result h.old h.new f.old f.new }
+    ensures { Acts (gives_text h.old f.old (drop 1 f.old.stack.values) (codes "null")) result h.old h.new f.old f.new }
 {
     match null_text(alloc) {
         Err(_) => HeapEffect::Memory,
@@ -63,7 +63,7 @@ fn give_null(alloc: Global, h: &mut Heap, f: &mut Frame) -> HeapEffect
 /// `kindOf(O)S`: without memory nothing changes.
 pub fn kind_of(alloc: Global, k: &Linked, h: &mut Heap, f: &mut Frame) -> HeapEffect
     requires { f.old.pc < 65535 }
-    ensures { Shares (kind_of k.now h.old f.old f.old.stack.values) result h.old h.new f.old f.new }
+    ensures { Acts (kind_of k.now h.old f.old f.old.stack.values) result h.old h.new f.old f.new }
 {
     match f.stack.top() {
         None => HeapEffect::Stuck(StuckKind::Stack),

@@ -2,7 +2,7 @@
 
 ghost use Rattle.std.specs.Prelude.{◌≡◌, ◌∷◌, ◌+◌, ◌<◌, ◌≤◌, drop, slice_get};
 ghost use Rattle.vm_state.specs.Natives.{latch, opens, count_down, awaits, await, names_thread, owned_here};
-ghost use Rattle.vm_state.specs.Shared.{Shares};
+ghost use Rattle.vm_native.specs.Acts.{Acts};
 
 use crate::results::{give_one, truth};
 use cf_link::built_in::{CLASS_CAST_EXCEPTION, NULL_POINTER_EXCEPTION};
@@ -11,7 +11,7 @@ use vm_state::{Frame, Heap, HeapEffect, StuckKind, Value, pop_off};
 /// `latch(O)H`: without memory nothing changes.
 pub fn latch(h: &mut Heap, f: &mut Frame) -> HeapEffect
     requires { f.old.pc < 65535 }
-    ensures { Shares (latch h.old f.old f.old.stack.values) result h.old h.new f.old f.new }
+    ensures { Acts (latch h.old f.old f.old.stack.values) result h.old h.new f.old f.new }
 {
     match f.stack.top() {
         None => HeapEffect::Stuck(StuckKind::Stack),
@@ -37,7 +37,7 @@ pub fn latch(h: &mut Heap, f: &mut Frame) -> HeapEffect
 
 fn open(h: &mut Heap, f: &mut Frame, at: u32) -> HeapEffect
     requires { f.old.pc < 65535 }
-    ensures { Shares (opens h.old f.old (drop 1 f.old.stack.values) at (slice_get h.old.opened at)) result h.old h.new f.old f.new }
+    ensures { Acts (opens h.old f.old (drop 1 f.old.stack.values) at (slice_get h.old.opened at)) result h.old h.new f.old f.new }
 {
     match h.opened.get(at as usize) {
         None => return HeapEffect::Stuck(StuckKind::WrongKind),
@@ -51,7 +51,7 @@ fn open(h: &mut Heap, f: &mut Frame, at: u32) -> HeapEffect
 /// `countDown(H)V`
 pub fn count_down(h: &mut Heap, f: &mut Frame) -> HeapEffect
     requires { f.old.pc < 65535 }
-    ensures { Shares (count_down h.old f.old f.old.stack.values) result h.old h.new f.old f.new }
+    ensures { Acts (count_down h.old f.old f.old.stack.values) result h.old h.new f.old f.new }
 {
     match f.stack.top() {
         None => HeapEffect::Stuck(StuckKind::Stack),
@@ -63,7 +63,7 @@ pub fn count_down(h: &mut Heap, f: &mut Frame) -> HeapEffect
 
 fn pass(h: &Heap, f: &mut Frame, at: u32) -> HeapEffect
     requires { f.old.pc < 65535 }
-    ensures { Shares (awaits h.now f.old (drop 1 f.old.stack.values) (slice_get h.now.opened at)) result h.now h.now f.old f.new }
+    ensures { Acts (awaits h.now f.old (drop 1 f.old.stack.values) (slice_get h.now.opened at)) result h.now h.now f.old f.new }
 {
     match h.opened.get(at as usize) {
         None => HeapEffect::Stuck(StuckKind::WrongKind),
@@ -81,7 +81,7 @@ fn pass(h: &Heap, f: &mut Frame, at: u32) -> HeapEffect
 /// `await(H)V`
 pub fn await_latch(h: &Heap, f: &mut Frame) -> HeapEffect
     requires { f.old.pc < 65535 }
-    ensures { Shares (await h.now f.old f.old.stack.values) result h.now h.now f.old f.new }
+    ensures { Acts (await h.now f.old f.old.stack.values) result h.now h.now f.old f.new }
 {
     match f.stack.top() {
         None => HeapEffect::Stuck(StuckKind::Stack),
@@ -104,7 +104,7 @@ fn names_thread(thread: u32, v: Value) -> bool
 /// `ownedHere(O)Z`
 pub fn owned_here(h: &Heap, f: &mut Frame, thread: u32) -> HeapEffect
     requires { f.old.pc < 65535 }
-    ensures { Shares (owned_here h.now f.old thread f.old.stack.values) result h.now h.now f.old f.new }
+    ensures { Acts (owned_here h.now f.old thread f.old.stack.values) result h.now h.now f.old f.new }
 {
     match f.stack.top() {
         None => HeapEffect::Stuck(StuckKind::Stack),

@@ -2,7 +2,7 @@
 
 ghost use Rattle.std.specs.Prelude.{◌≡◌, ◌<◌};
 ghost use Rattle.vm_state.specs.Natives.{number_in, same_numbers, identical, equal, object_init, object_equals};
-ghost use Rattle.vm_state.specs.Shared.{Shares};
+ghost use Rattle.vm_native.specs.Acts.{Acts};
 
 use crate::results::{replace_two, truth};
 use vm_state::{Frame, Heap, HeapEffect, StuckKind, Value, pop_off, same_texts};
@@ -42,7 +42,7 @@ fn equal(h: &Heap, v: Value, w: Value) -> bool
 /// `Object.<init>()V`
 pub fn object_init(h: &Heap, f: &mut Frame) -> HeapEffect
     requires { f.old.pc < 65535 }
-    ensures { Shares (object_init h.now f.old f.old.stack.values) result h.now h.now f.old f.new }
+    ensures { Acts (object_init h.now f.old f.old.stack.values) result h.now h.now f.old f.new }
 {
     match f.stack.top() {
         None => HeapEffect::Stuck(StuckKind::Stack),
@@ -56,7 +56,7 @@ pub fn object_init(h: &Heap, f: &mut Frame) -> HeapEffect
 /// `Object.equals(O)Z`
 pub fn object_equals(h: &Heap, f: &mut Frame) -> HeapEffect
     requires { f.old.pc < 65535 }
-    ensures { Shares (object_equals h.now f.old f.old.stack.values) result h.now h.now f.old f.new }
+    ensures { Acts (object_equals h.now f.old f.old.stack.values) result h.now h.now f.old f.new }
 {
     match f.stack.top_two() {
         None => HeapEffect::Stuck(StuckKind::Stack),

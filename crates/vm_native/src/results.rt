@@ -5,7 +5,7 @@ ghost use Rattle.vm_state.specs.Values.{width, depth};
 ghost use Rattle.vm_state.specs.Instructions.{next};
 ghost use Rattle.vm_state.specs.Local.{truth};
 ghost use Rattle.vm_state.specs.Natives.{gives};
-ghost use Rattle.vm_state.specs.Shared.{Shares};
+ghost use Rattle.vm_native.specs.Acts.{Acts};
 
 use vm_state::{Effect, Frame, Heap, HeapEffect, StuckKind, Value, push, replace_top};
 
@@ -21,7 +21,7 @@ pub(crate) fn truth(b: bool) -> Value
 #[inline]
 pub fn give(h: &Heap, f: &mut Frame, v: Value) -> HeapEffect
     requires { f.old.pc < 65535 }
-    ensures { Shares (gives h.now f.old f.old.stack.values v) result h.now h.now f.old f.new }
+    ensures { Acts (gives h.now f.old f.old.stack.values v) result h.now h.now f.old f.new }
 {
     match push(f, v) {
         Effect::Done => HeapEffect::Done,
@@ -35,7 +35,7 @@ pub fn give(h: &Heap, f: &mut Frame, v: Value) -> HeapEffect
 pub fn give_one(h: &Heap, f: &mut Frame, v: Value) -> HeapEffect
     requires pc { f.old.pc < 65535 }
     requires some { 0 < length f.old.stack.values }
-    ensures { Shares (gives h.now f.old (drop 1 f.old.stack.values) v) result h.now h.now f.old f.new }
+    ensures { Acts (gives h.now f.old (drop 1 f.old.stack.values) v) result h.now h.now f.old f.new }
 {
     match replace_top(f, v) {
         Effect::Done => HeapEffect::Done,
@@ -44,7 +44,7 @@ pub fn give_one(h: &Heap, f: &mut Frame, v: Value) -> HeapEffect
     }
 }
 
-/// Puts a value of one place in the place of the top two operands.
+/// Puts a value of category 1 where the top two operands were.
 pub(crate) fn replace_two(f: &mut Frame, v: Value)
     requires pc { f.old.pc < 65535 }
     requires two { 2 ≤ length f.old.stack.values }

@@ -3,8 +3,8 @@
 ghost use Rattle.std.specs.Prelude.{◌≡◌, ◌+◌, ◌++◌, ◌∷◌, ◌<◌, ◌≤◌, [], drop, length, if◌then◌else◌, nat_lt, slice_get, IfOk};
 ghost use Rattle.std.specs.Str.{chars};
 ghost use Rattle.vm_state.specs.Values.{depth};
-ghost use Rattle.vm_state.specs.Natives.{units, is_empty, measured, string_length, emptied, string_is_empty, joined_text, gives_text, joined, may_be_text, concats, concat, printed, println};
-ghost use Rattle.vm_state.specs.Shared.{Shares};
+ghost use Rattle.vm_state.specs.Natives.{code_units, is_empty, measured, string_length, emptied, string_is_empty, joined_text, gives_text, joined, may_be_text, concats, concat, printed, println};
+ghost use Rattle.vm_native.specs.Acts.{Acts};
 
 use crate::results::{give_one, replace_two, truth};
 use cf_link::built_in::{NULL_POINTER_EXCEPTION, OUT_OF_MEMORY_ERROR};
@@ -29,9 +29,9 @@ fn add(count: u64, more: u64) -> Result<u64, NoMemory>
     }
 }
 
-#[tactic(auto, using(crate::proofs::Units::units_push))]
-fn units_of(text: &str) -> Result<u64, NoMemory>
-    ensures { IfOk result (λ n. n ≡ units (chars text.now)) }
+#[tactic(auto, using(crate::proofs::Units::code_units_push))]
+fn code_units_of(text: &str) -> Result<u64, NoMemory>
+    ensures { IfOk result (λ n. n ≡ code_units (chars text.now)) }
 {
     let mut count: u64 = 0;
     for character in text.chars() {
@@ -41,20 +41,20 @@ fn units_of(text: &str) -> Result<u64, NoMemory>
 }
 
 /// How many UTF-16 units a text has.
-fn units(text: &Name) -> Result<u64, NoMemory>
-    ensures { IfOk result (λ n. n ≡ units text.now) }
+fn code_units(text: &Name) -> Result<u64, NoMemory>
+    ensures { IfOk result (λ n. n ≡ code_units text.now) }
 {
-    units_of(text.as_str())
+    code_units_of(text.as_str())
 }
 
 fn measure(h: &Heap, f: &mut Frame, at: u32) -> HeapEffect
     requires pc { f.old.pc < 65535 }
     requires some { 0 < length f.old.stack.values }
-    ensures { Shares (measured h.now f.old (drop 1 f.old.stack.values) (slice_get h.now.texts at)) result h.now h.now f.old f.new }
+    ensures { Acts (measured h.now f.old (drop 1 f.old.stack.values) (slice_get h.now.texts at)) result h.now h.now f.old f.new }
 {
     match h.texts.get(at as usize) {
         None => HeapEffect::Stuck(StuckKind::WrongKind),
-        Some(text) => match units(text) {
+        Some(text) => match code_units(text) {
             Err(_) => HeapEffect::Memory,
             Ok(count) => {
                 if count < 1 << 31 {
@@ -70,7 +70,7 @@ fn measure(h: &Heap, f: &mut Frame, at: u32) -> HeapEffect
 /// `String.length()I`
 pub fn string_length(h: &Heap, f: &mut Frame) -> HeapEffect
     requires { f.old.pc < 65535 }
-    ensures { Shares (string_length h.now f.old f.old.stack.values) result h.now h.now f.old f.new }
+    ensures { Acts (string_length h.now f.old f.old.stack.values) result h.now h.now f.old f.new }
 {
     match f.stack.top() {
         None => HeapEffect::Stuck(StuckKind::Stack),
@@ -88,7 +88,7 @@ fn is_empty(text: &Name) -> bool
 fn empty(h: &Heap, f: &mut Frame, at: u32) -> HeapEffect
     requires pc { f.old.pc < 65535 }
     requires some { 0 < length f.old.stack.values }
-    ensures { Shares (emptied h.now f.old (drop 1 f.old.stack.values) (slice_get h.now.texts at)) result h.now h.now f.old f.new }
+    ensures { Acts (emptied h.now f.old (drop 1 f.old.stack.values) (slice_get h.now.texts at)) result h.now h.now f.old f.new }
 {
     match h.texts.get(at as usize) {
         None => HeapEffect::Stuck(StuckKind::WrongKind),
@@ -99,7 +99,7 @@ fn empty(h: &Heap, f: &mut Frame, at: u32) -> HeapEffect
 /// `String.isEmpty()Z`
 pub fn string_is_empty(h: &Heap, f: &mut Frame) -> HeapEffect
     requires { f.old.pc < 65535 }
-    ensures { Shares (string_is_empty h.now f.old f.old.stack.values) result h.now h.now f.old f.new }
+    ensures { Acts (string_is_empty h.now f.old f.old.stack.values) result h.now h.now f.old f.new }
 {
     match f.stack.top() {
         None => HeapEffect::Stuck(StuckKind::Stack),
@@ -110,7 +110,7 @@ pub fn string_is_empty(h: &Heap, f: &mut Frame) -> HeapEffect
 
 fn print(alloc: Global, h: &mut Heap, f: &mut Frame, thread: u32, at: u32) -> HeapEffect
     requires { f.old.pc < 65535 }
-    ensures { Shares (printed h.old f.old thread (drop 1 f.old.stack.values) (slice_get h.old.texts at)) result h.old h.new f.old f.new }
+    ensures { Acts (printed h.old f.old thread (drop 1 f.old.stack.values) (slice_get h.old.texts at)) result h.old h.new f.old f.new }
 {
     let Some(text) = h.texts.get(at as usize) else {
         return HeapEffect::Stuck(StuckKind::WrongKind);
@@ -128,7 +128,7 @@ fn print(alloc: Global, h: &mut Heap, f: &mut Frame, thread: u32, at: u32) -> He
 /// `println(S)V`: without memory nothing changes.
 pub fn println(alloc: Global, h: &mut Heap, f: &mut Frame, thread: u32) -> HeapEffect
     requires { f.old.pc < 65535 }
-    ensures { Shares (println h.old f.old thread f.old.stack.values) result h.old h.new f.old f.new }
+    ensures { Acts (println h.old f.old thread f.old.stack.values) result h.old h.new f.old f.new }
 {
     match f.stack.top() {
         None => HeapEffect::Stuck(StuckKind::Stack),
@@ -138,7 +138,7 @@ pub fn println(alloc: Global, h: &mut Heap, f: &mut Frame, thread: u32) -> HeapE
     }
 }
 
-fn join(alloc: Global, a: &Name, b: &Name) -> Result<Name, NoMemory>
+pub(crate) fn join(alloc: Global, a: &Name, b: &Name) -> Result<Name, NoMemory>
     ensures { IfOk result (λ made. made ≡ a.now ++ b.now) }
 {
     let mut text = String::from_str(alloc, a.as_str())?;
@@ -147,14 +147,14 @@ fn join(alloc: Global, a: &Name, b: &Name) -> Result<Name, NoMemory>
 }
 
 fn too_long(a: &Name, b: &Name) -> Result<bool, NoMemory>
-    ensures { IfOk result (λ long. long ≡ nat_lt 1000000 (units a.now + units b.now)) }
+    ensures { IfOk result (λ long. long ≡ nat_lt 1000000 (code_units a.now + code_units b.now)) }
 {
-    let count = add(units(a)?, units(b)?)?;
+    let count = add(code_units(a)?, code_units(b)?)?;
     Ok(count > 1_000_000)
 }
 
 /// Two texts joined; None where that would have too many UTF-16 units.
-fn join_text(alloc: Global, a: &Name, b: &Name) -> Result<Option<Name>, NoMemory>
+pub(crate) fn join_text(alloc: Global, a: &Name, b: &Name) -> Result<Option<Name>, NoMemory>
     ensures { IfOk result (λ made. made ≡ joined_text a.now b.now) }
 {
     if too_long(a, b)? {
@@ -169,7 +169,7 @@ fn give_two(h: &mut Heap, f: &mut Frame, text: Name) -> HeapEffect
     requires pc { f.old.pc < 65535 }
     requires two { 2 ≤ length f.old.stack.values }
     requires room { depth (drop 2 f.old.stack.values) + 2 ≤ f.old.stack.room }
-    ensures { Shares (gives_text h.old f.old (drop 2 f.old.stack.values) text) result h.old h.new f.old f.new }
+    ensures { Acts (gives_text h.old f.old (drop 2 f.old.stack.values) text) result h.old h.new f.old f.new }
 {
     let at = h.texts.len();
     if at >= 4294967295 {
@@ -186,7 +186,7 @@ fn join_two(alloc: Global, h: &mut Heap, f: &mut Frame, a: u32, b: u32) -> HeapE
     requires pc { f.old.pc < 65535 }
     requires two { 2 ≤ length f.old.stack.values }
     requires room { depth (drop 2 f.old.stack.values) + 2 ≤ f.old.stack.room }
-    ensures { Shares (joined h.old f.old (drop 2 f.old.stack.values) (slice_get h.old.texts a) (slice_get h.old.texts b)) result h.old h.new f.old f.new }
+    ensures { Acts (joined h.old f.old (drop 2 f.old.stack.values) (slice_get h.old.texts a) (slice_get h.old.texts b)) result h.old h.new f.old f.new }
 {
     let Some(one) = h.texts.get(a as usize) else {
         return HeapEffect::Stuck(StuckKind::WrongKind);
@@ -211,7 +211,7 @@ fn concats(alloc: Global, h: &mut Heap, f: &mut Frame, v: Value, w: Value) -> He
     requires pc { f.old.pc < 65535 }
     requires two { 2 ≤ length f.old.stack.values }
     requires room { depth (drop 2 f.old.stack.values) + 2 ≤ f.old.stack.room }
-    ensures { Shares (concats h.old f.old (drop 2 f.old.stack.values) v w) result h.old h.new f.old f.new }
+    ensures { Acts (concats h.old f.old (drop 2 f.old.stack.values) v w) result h.old h.new f.old f.new }
 {
     match (v, w) {
         (Value::Text(a), Value::Text(b)) => join_two(alloc, h, f, a, b),
@@ -228,7 +228,7 @@ fn concats(alloc: Global, h: &mut Heap, f: &mut Frame, v: Value, w: Value) -> He
 /// `concat(SS)S`: without memory nothing changes.
 pub fn concat(alloc: Global, h: &mut Heap, f: &mut Frame) -> HeapEffect
     requires { f.old.pc < 65535 }
-    ensures { Shares (concat h.old f.old f.old.stack.values) result h.old h.new f.old f.new }
+    ensures { Acts (concat h.old f.old f.old.stack.values) result h.old h.new f.old f.new }
 {
     match f.stack.top_two() {
         None => HeapEffect::Stuck(StuckKind::Stack),

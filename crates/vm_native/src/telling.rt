@@ -1,14 +1,15 @@
-//! Texts of values (`java/lang/Object`).
+//! Texts of values (`java/lang/Object`, `lazyrt/Cells`).
 
 ghost use Rattle.std.specs.Prelude.{◌≡◌, ◌<◌, drop, length, codes, IfOk};
-ghost use Rattle.vm_state.specs.Natives.{truth_text, text_of, told, object_to_string};
-ghost use Rattle.vm_state.specs.Shared.{Shares};
+ghost use Rattle.vm_state.specs.Natives.{truth_text, text_of, told, object_to_string, is_box, text};
+ghost use Rattle.vm_native.specs.Acts.{Acts};
 
-use crate::kinds::give_text;
+use crate::kinds::{give_null, give_text};
 use crate::names::class_text;
 use crate::numbers::decimal_text;
 use crate::results::give_one;
 use cf_link::Linked;
+use cf_link::built_in::CLASS_CAST_EXCEPTION;
 use sl_base::{Name, NoMemory};
 use std::alloc::Global;
 use vm_state::{Frame, Heap, HeapEffect, StuckKind, Value, class_of};
@@ -45,10 +46,10 @@ fn text_of(alloc: Global, k: &Linked, v: Value) -> Result<Name, NoMemory>
 }
 
 /// The text of a value in the place of the top operand; a text is its own text.
-fn tell(alloc: Global, k: &Linked, h: &mut Heap, f: &mut Frame, v: Value) -> HeapEffect
+pub(crate) fn tell(alloc: Global, k: &Linked, h: &mut Heap, f: &mut Frame, v: Value) -> HeapEffect
     requires pc { f.old.pc < 65535 }
     requires some { 0 < length f.old.stack.values }
-    ensures { Shares (told k.now h.old f.old (drop 1 f.old.stack.values) v) result h.old h.new f.old f.new }
+    ensures { Acts (told k.now h.old f.old (drop 1 f.old.stack.values) v) result h.old h.new f.old f.new }
 {
     match v {
         Value::Text(at) => give_one(h, f, Value::Text(at)),
@@ -62,10 +63,40 @@ fn tell(alloc: Global, k: &Linked, h: &mut Heap, f: &mut Frame, v: Value) -> Hea
 /// `Object.toString()S`: without memory nothing changes.
 pub fn object_to_string(alloc: Global, k: &Linked, h: &mut Heap, f: &mut Frame) -> HeapEffect
     requires { f.old.pc < 65535 }
-    ensures { Shares (object_to_string k.now h.old f.old f.old.stack.values) result h.old h.new f.old f.new }
+    ensures { Acts (object_to_string k.now h.old f.old f.old.stack.values) result h.old h.new f.old f.new }
 {
     match f.stack.top() {
         None => HeapEffect::Stuck(StuckKind::Stack),
         Some(v) => tell(alloc, k, h, f, v),
+    }
+}
+
+fn is_box(v: Value) -> bool
+    ensures { result ≡ is_box v }
+{
+    match v {
+        Value::BoxInt(_) => true,
+        Value::BoxLong(_) => true,
+        Value::BoxBool(_) => true,
+        Value::BoxUnit => true,
+        _ => false,
+    }
+}
+
+/// `text(O)S`: without memory nothing changes.
+pub fn text(alloc: Global, k: &Linked, h: &mut Heap, f: &mut Frame) -> HeapEffect
+    requires { f.old.pc < 65535 }
+    ensures { Acts (text k.now h.old f.old f.old.stack.values) result h.old h.new f.old f.new }
+{
+    match f.stack.top() {
+        None => HeapEffect::Stuck(StuckKind::Stack),
+        Some(Value::Null) => give_null(alloc, h, f),
+        Some(v) => {
+            if v.is_text() || is_box(v) {
+                tell(alloc, k, h, f, v)
+            } else {
+                HeapEffect::Fail(CLASS_CAST_EXCEPTION)
+            }
+        }
     }
 }

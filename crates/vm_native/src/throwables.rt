@@ -3,12 +3,13 @@
 
 ghost use Rattle.std.specs.Prelude.{◌≡◌, ◌<◌, drop, length};
 ghost use Rattle.vm_state.specs.Natives.{is_object_of, sets_of, holds_at, throwable_init, throwable_init_text, get_message, thread_init};
-ghost use Rattle.vm_state.specs.Shared.{Shares};
+ghost use Rattle.vm_native.specs.Acts.{Acts};
 
 use crate::results::give_one;
+use crate::writing::write;
 use cf_link::built_in::{THREAD, THROWABLE};
 use cf_link::{Linked, conforms};
-use vm_state::{Frame, Heap, HeapEffect, StuckKind, Value, field_at, pop_off, write_field};
+use vm_state::{Frame, Heap, HeapEffect, StuckKind, Value, field_at, pop_off};
 
 fn is_object_of(k: &Linked, class: u32, v: Value) -> bool
     ensures { result ≡ is_object_of k.now class v }
@@ -30,12 +31,12 @@ fn sets_of(
     o: Value,
 ) -> HeapEffect
     requires { f.old.pc < 65535 }
-    ensures { Shares (sets_of k.now h.old f.old class n v o (drop 2 f.old.stack.values)) result h.old h.new f.old f.new }
+    ensures { Acts (sets_of k.now h.old f.old class n v o (drop 2 f.old.stack.values)) result h.old h.new f.old f.new }
 {
     match o {
         Value::Ref { at, class: of } => {
             if conforms(k.classes.as_slice(), of, class) {
-                write_field(h, f, at, n, v)
+                write(h, f, at, n, v)
             } else {
                 HeapEffect::Stuck(StuckKind::WrongKind)
             }
@@ -47,7 +48,7 @@ fn sets_of(
 /// `Throwable.<init>()V`
 pub fn throwable_init(k: &Linked, h: &Heap, f: &mut Frame) -> HeapEffect
     requires { f.old.pc < 65535 }
-    ensures { Shares (throwable_init k.now h.now f.old f.old.stack.values) result h.now h.now f.old f.new }
+    ensures { Acts (throwable_init k.now h.now f.old f.old.stack.values) result h.now h.now f.old f.new }
 {
     match f.stack.top() {
         None => HeapEffect::Stuck(StuckKind::Stack),
@@ -65,7 +66,7 @@ pub fn throwable_init(k: &Linked, h: &Heap, f: &mut Frame) -> HeapEffect
 /// `Throwable.<init>(S)V`
 pub fn throwable_init_text(k: &Linked, h: &mut Heap, f: &mut Frame) -> HeapEffect
     requires { f.old.pc < 65535 }
-    ensures { Shares (throwable_init_text k.now h.old f.old f.old.stack.values) result h.old h.new f.old f.new }
+    ensures { Acts (throwable_init_text k.now h.old f.old f.old.stack.values) result h.old h.new f.old f.new }
 {
     match f.stack.top_two() {
         None => HeapEffect::Stuck(StuckKind::Stack),
@@ -82,7 +83,7 @@ pub fn throwable_init_text(k: &Linked, h: &mut Heap, f: &mut Frame) -> HeapEffec
 fn hold(h: &Heap, f: &mut Frame, v: Option<Value>) -> HeapEffect
     requires pc { f.old.pc < 65535 }
     requires some { 0 < length f.old.stack.values }
-    ensures { Shares (holds_at h.now f.old (drop 1 f.old.stack.values) v) result h.now h.now f.old f.new }
+    ensures { Acts (holds_at h.now f.old (drop 1 f.old.stack.values) v) result h.now h.now f.old f.new }
 {
     match v {
         None => HeapEffect::Stuck(StuckKind::WrongKind),
@@ -93,7 +94,7 @@ fn hold(h: &Heap, f: &mut Frame, v: Option<Value>) -> HeapEffect
 /// `Throwable.getMessage()S`
 pub fn get_message(k: &Linked, h: &Heap, f: &mut Frame) -> HeapEffect
     requires { f.old.pc < 65535 }
-    ensures { Shares (get_message k.now h.now f.old f.old.stack.values) result h.now h.now f.old f.new }
+    ensures { Acts (get_message k.now h.now f.old f.old.stack.values) result h.now h.now f.old f.new }
 {
     match f.stack.top() {
         None => HeapEffect::Stuck(StuckKind::Stack),
@@ -111,7 +112,7 @@ pub fn get_message(k: &Linked, h: &Heap, f: &mut Frame) -> HeapEffect
 /// `Thread.<init>(Ljava/lang/Runnable;)V`
 pub fn thread_init(k: &Linked, h: &mut Heap, f: &mut Frame) -> HeapEffect
     requires { f.old.pc < 65535 }
-    ensures { Shares (thread_init k.now h.old f.old f.old.stack.values) result h.old h.new f.old f.new }
+    ensures { Acts (thread_init k.now h.old f.old f.old.stack.values) result h.old h.new f.old f.new }
 {
     match f.stack.top_two() {
         None => HeapEffect::Stuck(StuckKind::Stack),

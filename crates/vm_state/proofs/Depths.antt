@@ -1,4 +1,4 @@
--- No value takes fewer places than one.
+-- No value takes fewer units than one.
 use Rattle.std.proofs.Common.{◌≤◌, List, [], ◌∷◌, length, arith}
 use Rattle.vm_state.specs.declared.value.Value.{Value}
 use Rattle.vm_state.specs.declared.value.Value.TheVariants.{Long}

@@ -2,7 +2,7 @@
 use Rattle.std.specs.Prelude.{ℕ, List}
 use Rattle.vm_state.specs.declared.value.Value.{Value}
 
--- the operands from the top on, and the places that there are for them
+-- the operands from the top on, and the units of depth that there are for them
 pub record Held : Type 0 where
   pub values : List Value
   pub room : ℕ

@@ -1,3 +1,5 @@
+-- What a reader must believe, in this order: values, what instructions do to frames and threads, the heap and what threads
+-- share, built-in methods, and the machine as a system of threads.
 pub mod Values
 pub mod Held
 pub mod Lends

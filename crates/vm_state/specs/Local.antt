@@ -29,11 +29,12 @@ use Rattle.vm_state.specs.declared.outcomes.LocalStep.{LocalStep}
 use Rattle.vm_state.specs.declared.outcomes.LocalStep.TheVariants as step
 use Rattle.vm_state.specs.Values.{width, depth, is_kind, is_null}
 use Rattle.vm_state.specs.Actions.{action_of}
-use Rattle.vm_state.specs.Instructions.{After, same, next, pushed, place_of, at_local, load, store, incremented, pop, dup, swap, ints, longs, long_shift, int_divide, long_divide, int_negate, long_negate, widen, narrow, compare_longs, if_zero, if_ints, if_same, if_null, goes}
+use Rattle.vm_state.specs.Instructions.{After, same, next, pushed, as_index, at_local, load, store, incremented, pop, dup, swap, ints, longs, long_shift, int_divide, long_divide, int_negate, long_negate, widen, narrow, compare_longs, if_zero, if_ints, if_same, if_null, goes}
 use Rattle.vm_state.specs.Methods.{method_of, code_of, instr_at, ref_at, class_of, is_initialiser, is_result, are_arguments}
 
 -- ---- constants and classes (JVMS 6.5: ldc, checkcast, instanceof)
 
+-- ldc of what its index resolves to
 abbrev pub constant : Frame → Option LinkedRef → After
 constant f (Some (ref.Int n)) = pushed f f.stack.values (value.Int n)
 constant f (Some (ref.Long n)) = pushed f f.stack.values (value.Long n)
@@ -45,19 +46,23 @@ constant f None = same f (Stuck WrongKind)
 abbrev pub cast : Linked → Frame → ℕ → Value → After
 cast k f class v = if is_null v || conforms k.classes (class_of v) class then next f f.stack.values else same f AtHeap
 
+-- checkcast of a value to what its index resolves to
 abbrev pub class_cast : Linked → Frame → Value → Option LinkedRef → After
 class_cast k f v (Some (ref.Class class)) = if is_kind kind.Reference v then cast k f class v else same f (Stuck WrongKind)
 class_cast k f v (Some _) = same f (Stuck WrongKind)
 class_cast k f v None = same f (Stuck WrongKind)
 
+-- checkcast of the top operand
 unfoldable pub check_cast : Linked → Frame → Option LinkedRef → List Value → After
 check_cast k f r [] = same f (Stuck Stack)
 check_cast k f r (v ∷ vs) = class_cast k f v r
 
+-- the value is an `Evaluating`
 abbrev pub is_evaluating : Value → Bool
 is_evaluating (value.Evaluating thread) = true
 is_evaluating _ = false
 
+-- the value is a `Latch`
 abbrev pub is_latch : Value → Bool
 is_latch (value.Latch at owner) = true
 is_latch _ = false
@@ -70,15 +75,18 @@ is_instance k v class =
     else if nat_eq class LATCH then is_latch v
     else not (is_null v) && conforms k.classes (class_of v) class
 
+-- a truth value as an Int
 abbrev pub truth : Bool → Value
 truth b = value.Int (pos (if b then 1 else 0))
 
+-- instanceof of a value and what its index resolves to
 abbrev pub class_tested : Linked → Frame → Value → List Value → Option LinkedRef → After
 class_tested k f v vs (Some (ref.Class class)) =
     if is_kind kind.Reference v then next f (truth (is_instance k v class) ∷ vs) else same f (Stuck WrongKind)
 class_tested k f v vs (Some _) = same f (Stuck WrongKind)
 class_tested k f v vs None = same f (Stuck WrongKind)
 
+-- instanceof of the top operand
 unfoldable pub instance_of : Linked → Frame → Option LinkedRef → List Value → After
 instance_of k f r [] = same f (Stuck Stack)
 instance_of k f r (v ∷ vs) = class_tested k f v vs r
@@ -91,10 +99,12 @@ aims f target count (Some code) native = same f (Call target count)
 aims f target count None (Some native) = same f AtHeap
 aims f target count None None = same f (Stuck NoMethod)
 
+-- the call of a method, where there is one
 abbrev pub aimed : Frame → Target → ℕ → Option LinkedMethod → After
 aimed f target count None = same f (Stuck NoMethod)
 aimed f target count (Some m) = aims f target count m.code m.native
 
+-- the call of the selected method, where there is one
 abbrev pub selected : Linked → Frame → ℕ → Option (ℕ × ℕ) → After
 selected k f count None = same f (Stuck NoMethod)
 selected k f count (Some found) =
@@ -110,6 +120,7 @@ abbrev pub received : Linked → Frame → Invocation → ℕ → ℕ → ℕ �
 received k f how of number count v =
     if is_null v then same f AtHeap else selected k f count (selection k how (class_of v) of number)
 
+-- the call of a method on the object below its arguments
 abbrev pub invoked_on : Linked → Frame → Invocation → ℕ → ℕ → LinkedMethod → Option Value → After
 invoked_on k f how of number m None = same f (Stuck Stack)
 invoked_on k f how of number m (Some v) =
@@ -117,10 +128,12 @@ invoked_on k f how of number m (Some v) =
     then received k f how of number (length m.parameters + 1) v
     else same f (Stuck WrongKind)
 
+-- the call of the method that is named, where there is one
 abbrev pub invoked_as : Linked → Frame → Invocation → ℕ → ℕ → Option LinkedMethod → After
 invoked_as k f how of number None = same f (Stuck NoMethod)
 invoked_as k f how of number (Some m) = invoked_on k f how of number m (slice_get f.stack.values (length m.parameters))
 
+-- a call of what the reference resolves to
 abbrev pub invoked : Linked → Frame → Invocation → Option LinkedRef → After
 invoked k f how (Some (ref.Method of number)) = invoked_as k f how of number (method_at k.classes of number)
 invoked k f how (Some _) = same f (Stuck WrongKind)
@@ -128,18 +141,22 @@ invoked k f how None = same f (Stuck WrongKind)
 
 -- ---- ends of a method (JVMS 6.5: ireturn, lreturn, areturn, return, athrow)
 
+-- a result, or none, is of the kind of the method's result
 abbrev pub fits_method : Option LinkedMethod → Option Value → Bool
 fits_method None v = false
 fits_method (Some m) v = is_result m.result v
 
+-- ireturn, lreturn or areturn: the top operand is the result
 abbrev pub give : Linked → ValueKind → Frame → List Value → After
 give k kind f [] = same f (Stuck Stack)
 give k kind f (v ∷ vs) =
     if is_kind kind v && fits_method (method_of k f) (Some v) then same f (Return (Some v)) else same f (Stuck WrongKind)
 
+-- return: there is no result
 abbrev pub leave : Linked → Frame → After
 leave k f = if fits_method (method_of k f) None then same f (Return None) else same f (Stuck WrongKind)
 
+-- athrow: the top operand is thrown, on null an exception is made
 abbrev pub throw : Linked → Frame → List Value → After
 throw k f [] = same f (Stuck Stack)
 throw k f (value.Ref at class ∷ vs) =
@@ -149,6 +166,7 @@ throw k f (v ∷ vs) = same f (Stuck WrongKind)
 
 -- ---- one instruction: a line for each family
 
+-- what an instruction with this action does to its frame
 abbrev pub acted : Linked → Frame → Instr → Action → After
 acted k f i act.Nop = next f f.stack.values
 acted k f i act.PushNull = pushed f f.stack.values value.Null
@@ -156,12 +174,12 @@ acted k f i (act.PushInt n) = pushed f f.stack.values (value.Int n)
 acted k f i (act.PushLong n) = pushed f f.stack.values (value.Long n)
 acted k f i act.PushOperand = pushed f f.stack.values (value.Int i.a)
 acted k f i act.PushConstant = constant f (ref_at k f.class i.a)
-acted k f i (act.Load kind) = at_local (load kind f) f (place_of i.a)
+acted k f i (act.Load kind) = at_local (load kind f) f (as_index i.a)
 acted k f i (act.LoadAt kind n) = load kind f n
-acted k f i (act.Store kind) = at_local (λ n. store kind f n f.stack.values) f (place_of i.a)
+acted k f i (act.Store kind) = at_local (λ n. store kind f n f.stack.values) f (as_index i.a)
 acted k f i (act.StoreAt kind n) = store kind f n f.stack.values
-acted k f i (act.Pop places) = pop places f f.stack.values
-acted k f i (act.Dup places under) = dup places under f f.stack.values
+acted k f i (act.Pop units) = pop units f f.stack.values
+acted k f i (act.Dup units under) = dup units under f f.stack.values
 acted k f i act.Swap = swap f f.stack.values
 acted k f i (act.Ints op) = ints op f f.stack.values
 acted k f i (act.Longs op) = longs op f f.stack.values
@@ -170,7 +188,7 @@ acted k f i (act.IntDivide division) = int_divide division f f.stack.values
 acted k f i (act.LongDivide division) = long_divide division f f.stack.values
 acted k f i act.IntNegate = int_negate f f.stack.values
 acted k f i act.LongNegate = long_negate f f.stack.values
-acted k f i act.Increment = at_local (λ n. incremented f n i.b (slice_get f.locals n)) f (place_of i.a)
+acted k f i act.Increment = at_local (λ n. incremented f n i.b (slice_get f.locals n)) f (as_index i.a)
 acted k f i act.IntToLong = widen f f.stack.values
 acted k f i act.LongToInt = narrow f f.stack.values
 acted k f i act.CompareLongs = compare_longs f f.stack.values
@@ -178,7 +196,7 @@ acted k f i (act.IfZero comparison) = if_zero comparison f i.a f.stack.values
 acted k f i (act.IfInts comparison) = if_ints comparison f i.a f.stack.values
 acted k f i (act.IfSame wanted) = if_same wanted f i.a f.stack.values
 acted k f i (act.IfNull wanted) = if_null wanted f i.a f.stack.values
-acted k f i act.Goto = goes f f.stack.values (place_of i.a)
+acted k f i act.Goto = goes f f.stack.values (as_index i.a)
 acted k f i (act.Give kind) = give k kind f f.stack.values
 acted k f i act.Leave = leave k f
 acted k f i (act.AtHeap action) = same f AtHeap
@@ -188,10 +206,12 @@ acted k f i act.CheckCast = check_cast k f (ref_at k f.class i.a) f.stack.values
 acted k f i act.InstanceOf = instance_of k f (ref_at k f.class i.a) f.stack.values
 acted k f i act.Wide = same f (Stuck PcOut)
 
+-- the same, where a row of the table has its opcode
 abbrev pub row_acted : Linked → Frame → Instr → Option Action → After
 row_acted k f i None = same f (Stuck PcOut)
 row_acted k f i (Some action) = acted k f i action
 
+-- the same, where there is an instruction
 abbrev pub fetched : Linked → Frame → Option Instr → After
 fetched k f None = same f (Stuck PcOut)
 fetched k f (Some i) = row_acted k f i (action_of i.op)
@@ -202,6 +222,7 @@ instructed k f = fetched k f (instr_at k f)
 
 -- ---- in its thread
 
+-- what a step of a thread comes to, and the thread after it
 pub record LocalAfter : Type 0 where
   pub step : LocalStep
   pub thread : Thread
@@ -212,21 +233,23 @@ IsLocal a step.Memory old new = new ≡ old
 IsLocal a step.Stepped old new = (step.Stepped ≡ a.step) × (new ≡ a.thread)
 IsLocal a other old new = (other ≡ a.step) × (new ≡ a.thread) × (new ≡ old)
 
+-- a step that leaves the thread as it was
 abbrev pub stays : Thread → LocalStep → LocalAfter
 stays t s = record { step = s; thread = t }
 
+-- a step that is made, and leaves these frames
 abbrev pub moves : Thread → List Frame → LocalAfter
 moves t fs = record { step = step.Stepped; thread = record t { frames = fs } }
 
--- a value among locals: the second place of a Long holds Null
-abbrev pub slots : Value → List Value
-slots (value.Long n) = value.Long n ∷ value.Null ∷ []
-slots v = v ∷ []
+-- the local variables of a value: the second of a Long holds Null (JVMS 2.6.1)
+abbrev pub local_values : Value → List Value
+local_values (value.Long n) = value.Long n ∷ value.Null ∷ []
+local_values v = v ∷ []
 
 -- operands as locals: the last is on top
-abbrev pub placed : List Value → List Value
-placed [] = []
-placed (v ∷ vs) = placed vs ++ slots v
+abbrev pub as_locals : List Value → List Value
+as_locals [] = []
+as_locals (v ∷ vs) = as_locals vs ++ local_values v
 
 -- a local that isn't set holds Null
 abbrev pub padded : List Value → ℕ → List Value
@@ -242,18 +265,21 @@ frame_of target code locals = record {
   stack = record { values = []; room = code.max_stack };
 }
 
+-- a frame without its top operands, so many of them
 abbrev pub without : ℕ → Frame → Frame
 without count f = record f { stack = record { values = drop count f.stack.values; room = f.stack.room } }
 
+-- the call of a method: its frame is new, with the top operands of the caller's as its first locals (JVMS 2.6)
 abbrev pub entered : Thread → Frame → List Frame → Target → ℕ → Option Code → LocalAfter
 entered t f fs target count None = stays t (step.Stuck NoMethod)
 entered t f fs target count (Some code) =
     if nat_le count (length f.stack.values)
-    then (if nat_le (length (placed (take count f.stack.values))) code.max_locals
-    then moves t (frame_of target code (placed (take count f.stack.values)) ∷ without count f ∷ fs)
+    then (if nat_le (length (as_locals (take count f.stack.values))) code.max_locals
+    then moves t (frame_of target code (as_locals (take count f.stack.values)) ∷ without count f ∷ fs)
     else stays t (step.Stuck LocalOut))
     else stays t (step.Stuck Stack)
 
+-- the same, for the innermost of these frames
 abbrev pub called : Thread → List Frame → Target → ℕ → Option Code → LocalAfter
 called t [] target count code = stays t step.Ended
 called t (f ∷ fs) target count code = entered t f fs target count code
@@ -263,10 +289,12 @@ abbrev pub resumed : Frame → Option Value → Frame
 resumed g None = record g { pc = g.pc + 1 }
 resumed g (Some v) = record g { pc = g.pc + 1; stack = record { values = v ∷ g.stack.values; room = g.stack.room } }
 
+-- whether a result fits the operands of a frame
 abbrev pub has_room : Frame → Option Value → Bool
 has_room g None = true
 has_room g (Some v) = nat_le (depth g.stack.values + width v) g.stack.room
 
+-- a method of the frames above these ends, with a result or none
 abbrev pub returned : Thread → List Frame → Option Value → LocalAfter
 returned t [] v = moves t []
 returned t (g ∷ gs) v =
@@ -279,6 +307,7 @@ abbrev pub ended : Linked → Thread → List Frame → Option Value → LocalAf
 ended k t [] v = stays t step.Ended
 ended k t (f ∷ fs) v = if is_initialiser k f then stays t step.AtHeap else returned t fs v
 
+-- what the effect of the innermost frame, which is this one now, does to its thread
 abbrev pub settled : Linked → Thread → List Frame → Frame → Effect → LocalAfter
 settled k t fs f Done = moves t (f ∷ fs)
 settled k t fs f AtHeap = stays t step.AtHeap
@@ -289,6 +318,7 @@ settled k t fs f (Throw v) = record { step = step.Stepped; thread = record t { t
 
 -- ---- exceptions (JVMS 2.10)
 
+-- a handler with this class takes an exception
 abbrev pub takes : Linked → Value → Option LinkedRef → Bool
 takes k e (Some (ref.Class class)) = conforms k.classes (class_of e) class
 takes k e (Some _) = false
@@ -304,10 +334,12 @@ abbrev pub handler : Linked → Frame → Value → List Handler → Option ℕ
 handler k f e [] = None
 handler k f e (h ∷ hs) = if covers k f e h then Some h.target else handler k f e hs
 
+-- the handlers of a method's code
 abbrev pub handlers_of : Option Code → List Handler
 handlers_of None = []
 handlers_of (Some code) = code.handlers
 
+-- a frame that handles an exception: the exception alone is on its operand stack (JVMS 2.10)
 abbrev pub caught : Frame → Value → ℕ → Frame
 caught f e target = record f { pc = target; stack = record { values = e ∷ []; room = f.stack.room } }
 
@@ -322,10 +354,12 @@ unwound k t f (g ∷ gs) e None = if is_initialiser k f then stays t step.AtHeap
 
 -- ---- one local step
 
+-- the step of a thread whose innermost frame is this one: it goes on, or an exception unwinds it
 abbrev pub steps_in : Linked → Thread → Frame → List Frame → Option Value → LocalAfter
 steps_in k t f fs (Some e) = unwound k t f fs e (handler k f e (handlers_of (code_of k f.class f.method)))
 steps_in k t f fs None = settled k t fs (instructed k f).frame (instructed k f).effect
 
+-- the step of a thread with these frames
 abbrev pub steps_among : Linked → Thread → List Frame → LocalAfter
 steps_among k t [] = stays t step.Ended
 steps_among k t (f ∷ fs) = steps_in k t f fs t.thrown

@@ -13,12 +13,13 @@ use Rattle.vm_state.specs.declared.value.Value.{Value}
 use Rattle.vm_state.specs.declared.value.Value.TheVariants as value
 use Rattle.vm_state.specs.declared.frame.Frame.{Frame}
 use Rattle.vm_state.specs.Values.{is_kind}
-use Rattle.vm_state.specs.Instructions.{place_of}
+use Rattle.vm_state.specs.Instructions.{as_index}
 
 -- the method that a frame runs
 abbrev pub method_of : Linked → Frame → Option LinkedMethod
 method_of k f = method_at k.classes f.class f.method
 
+-- the code of the method of a class with this number
 abbrev pub code_of : Linked → ℕ → ℕ → Option Code
 code_of k class method = option_and_then (λ m. m.code) (method_at k.classes class method)
 
@@ -37,7 +38,7 @@ entry_of refs (suc n) = slice_get refs n
 
 -- what an index of the pool of a class resolves to
 abbrev pub ref_at : Linked → ℕ → ℤ → Option LinkedRef
-ref_at k class a = option_and_then (λ refs. option_and_then (entry_of refs) (place_of a)) (slice_get k.refs class)
+ref_at k class a = option_and_then (λ refs. option_and_then (entry_of refs) (as_index a)) (slice_get k.refs class)
 
 -- the class of a value; control values are of class Object
 abbrev pub class_of : Value → ℕ

@@ -6,51 +6,58 @@ use Rattle.vm_state.specs.declared.value.Value.TheVariants.{Int, Long, Null, Ref
 use Rattle.cf_link.specs.declared.value_kind.ValueKind.{ValueKind}
 use Rattle.cf_link.specs.declared.value_kind.ValueKind.TheVariants as kind
 
--- the places that a value takes among operands and locals
+-- how many units of depth a value takes, or local variables: its category (JVMS 2.6.1, 2.6.2, 2.11.1)
 abbrev pub width : Value → ℕ
 width (Long n) = 2
 width _ = 1
 
--- the places that operands take
+-- how many units of depth operands take
 abbrev pub depth : List Value → ℕ
 depth [] = 0
 depth (v ∷ vs) = depth vs + width v
 
--- the places that a value of a kind takes
+-- how many units of depth, or local variables, a value of a kind takes
 abbrev pub kind_width : ValueKind → ℕ
 kind_width kind.Long = 2
 kind_width _ = 1
 
+-- the number of an Int
 abbrev pub as_int : Value → Option ℤ
 as_int (Int n) = Some n
 as_int _ = None
 
+-- the number of a Long
 abbrev pub as_long : Value → Option ℤ
 as_long (Long n) = Some n
 as_long _ = None
 
+-- the kind is that of Ints
 abbrev pub is_int : ValueKind → Bool
 is_int kind.Int = true
 is_int _ = false
 
+-- the kind is that of Longs
 abbrev pub is_long : ValueKind → Bool
 is_long kind.Long = true
 is_long _ = false
 
+-- the kind is that of references
 abbrev pub is_ref : ValueKind → Bool
 is_ref kind.Reference = true
 is_ref _ = false
 
--- the value is of the kind: an Int, a Long, or what stands in a reference's place
+-- the value is of the kind: an Int, a Long, or what stands for a reference
 abbrev pub is_kind : ValueKind → Value → Bool
 is_kind k (Int n) = is_int k
 is_kind k (Long n) = is_long k
 is_kind k _ = is_ref k
 
+-- the value is null
 abbrev pub is_null : Value → Bool
 is_null Null = true
 is_null _ = false
 
+-- the value is a text
 abbrev pub is_text : Value → Bool
 is_text (Text at) = true
 is_text _ = false

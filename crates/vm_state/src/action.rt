@@ -56,9 +56,9 @@ pub enum Action {
     LoadAt(ValueKind, u32),
     Store(ValueKind),
     StoreAt(ValueKind, u32),
-    /// Takes so many places off.
+    /// Takes so many units of depth off (JVMS 2.6.2).
     Pop(u32),
-    /// Copies the top places, the first number of them, below the next ones, the second number of them.
+    /// Copies the top units, the first number of them, below the next ones, the second number of them.
     Dup(u32, u32),
     Swap,
     Ints(IntOp),

@@ -37,6 +37,7 @@ pub fn field_at(h: &Heap, at: u32, n: u32) -> Option<Value>
     }
 }
 
+// Sets the field n of an object.
 fn set_field(o: &mut Object, n: u32, v: Value)
     requires { n < length o.old.fields }
     ensures { o.new ≡ with_field o.old n v }
@@ -62,6 +63,7 @@ pub fn write_field(h: &mut Heap, f: &mut Frame, at: u32, n: u32, v: Value) -> He
     HeapEffect::Done
 }
 
+// Whether two texts that are there have the same characters.
 fn same_text(a: Option<&Name>, b: Option<&Name>) -> bool
     ensures { result ≡ same_text (option_copied a.entry) (option_copied b.entry) }
 {

@@ -3,7 +3,7 @@
 ghost use Rattle.std.specs.Prelude.{◌≡◌, ◌∷◌, ◌++◌, ◌<◌, ◌≤◌, length, take, IfOk, OnOk, replicate};
 ghost use Rattle.std.specs.Option.{option_copied};
 ghost use Rattle.vm_state.specs.declared.value.Value.TheVariants as value;
-ghost use Rattle.vm_state.specs.Local.{IsLocal, slots, placed, frame_of, without, called};
+ghost use Rattle.vm_state.specs.Local.{IsLocal, local_values, as_locals, frame_of, without, called};
 
 use crate::frame::Frame;
 use crate::operands::Operands;
@@ -15,9 +15,10 @@ use crate::value::Value;
 use cf_form::Code;
 use std::alloc::{AllocError, Global};
 
+// Appends the local variables of a value: of a Long it and Null.
 #[inline]
-fn add_slots(made: &mut Seq<Value>, v: Value) -> Result<(), AllocError>
-    ensures { OnOk result (made.new ≡ made.old ++ slots v) }
+fn add_locals(made: &mut Seq<Value>, v: Value) -> Result<(), AllocError>
+    ensures { OnOk result (made.new ≡ made.old ++ local_values v) }
 {
     made.push(v)?;
     match v {
@@ -34,7 +35,7 @@ fn arguments(
     all: usize,
 ) -> Result<Seq<Value>, AllocError>
     requires { count ≤ length stack.now.values }
-    ensures { IfOk result (λ made. made ≡ placed (take count stack.now.values)) }
+    ensures { IfOk result (λ made. made ≡ as_locals (take count stack.now.values)) }
 {
     let mut made = Seq::with_room(alloc, all)?;
     let mut left = count;
@@ -43,11 +44,12 @@ fn arguments(
         let Some(v) = stack.get(left) else {
             return Err(AllocError);
         };
-        add_slots(&mut made, v)?;
+        add_locals(&mut made, v)?;
     }
     Ok(made)
 }
 
+// Appends Null up to so many locals.
 fn pad(locals: &mut Seq<Value>, count: usize) -> Result<(), AllocError>
     ensures { OnOk result (locals.new ≡ locals.old ++ replicate count value.Null) }
 {
@@ -77,6 +79,7 @@ pub fn begin(
     })
 }
 
+// Takes so many operands off.
 fn drop_operands(f: &mut Frame, count: usize)
     ensures { f.new ≡ without count f.old }
 {

@@ -26,7 +26,7 @@ pub use actions::{ACTIONS, OpAction, action_of};
 pub use contents::{default_value, field_at, same_texts, write_field};
 pub use entering::{begin, enter};
 pub use frame::Frame;
-pub use going::{branch, go, place};
+pub use going::{as_index, branch, go};
 pub use heap::{Heap, Init, Object, State};
 pub use laws::{ends, rows};
 pub use linkage::{

@@ -5,7 +5,7 @@ ghost use Rattle.std.specs.Option.{option_copied};
 ghost use Rattle.vm_state.specs.Methods.{method_of, code_of, instr_in, instr_at, entry_of, ref_at, class_of, is_number, initialises, is_initialiser, is_of, is_result};
 
 use crate::frame::Frame;
-use crate::going::place;
+use crate::going::as_index;
 use crate::value::Value;
 use cf_form::{Code, Instr};
 use cf_link::built_in::{BOOLEAN, INTEGER, LATCH, LONG, OBJECT, STRING, UNIT};
@@ -19,6 +19,7 @@ pub fn method_of<'a>(k: &'a Linked, f: &Frame) -> Option<&'a LinkedMethod>
     method_at(k.classes.as_slice(), f.class, f.method)
 }
 
+/// The code of the method of a class with this number.
 #[inline(always)]
 pub fn code_of(k: &Linked, class: u32, method: u32) -> Option<&Code>
     ensures { option_copied result ≡ code_of k.now class method }
@@ -56,6 +57,7 @@ pub fn instr_at(k: &Linked, f: &Frame) -> Option<Instr>
     }
 }
 
+// What an index of a pool resolves to; 0 is none.
 #[inline(always)]
 fn entry_of(refs: &[LinkedRef], index: u32) -> Option<LinkedRef>
     ensures { result ≡ entry_of refs.now index }
@@ -75,7 +77,7 @@ pub fn ref_at(k: &Linked, class: u32, a: i32) -> Option<LinkedRef>
     ensures { result ≡ ref_at k.now class a }
 {
     match k.refs.get(class as usize) {
-        Some(refs) => match place(a) {
+        Some(refs) => match as_index(a) {
             Some(n) => entry_of(refs.as_slice(), n),
             None => None,
         },
@@ -100,6 +102,7 @@ pub fn class_of(v: Value) -> u32
     }
 }
 
+// Whether a number that is there is this one.
 #[inline(always)]
 fn is_number(number: Option<u32>, n: u32) -> bool
     ensures { result ≡ is_number number n }
@@ -110,6 +113,7 @@ fn is_number(number: Option<u32>, n: u32) -> bool
     }
 }
 
+// Whether this method of the class initialises it.
 #[inline(always)]
 fn initialises(class: Option<&LinkedClass>, method: u32) -> bool
     ensures { result ≡ initialises (option_copied class.entry) method }

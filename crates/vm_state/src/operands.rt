@@ -7,7 +7,7 @@ use crate::value::Value;
 use std::alloc::{AllocError, Global};
 use std::marker::Model;
 
-/// Operands, with room for so many places. A Long takes two places. Contracts see them from the top on.
+/// Operands, with room for so many units of depth, of which a Long takes two (JVMS 2.6.2). Contracts see them from the top on.
 #[derive(Drop)]
 pub struct Operands {
     items: Vec<Value>,
@@ -29,6 +29,7 @@ impl Model for Operands {
 }
 
 impl Operands {
+    /// No operands, with room for so many units.
     pub fn with_room(alloc: Global, room: u16) -> Result<Operands, AllocError>
         ensures { IfOk result (λ s. s ≡ record { values = []; room = room }) }
     {
@@ -39,6 +40,7 @@ impl Operands {
         })
     }
 
+    /// How many values they are.
     #[inline]
     pub fn count(&self) -> usize
         ensures { result ≡ length self.now.values }
@@ -46,7 +48,7 @@ impl Operands {
         self.items.len()
     }
 
-    /// Whether there is room for so many places more.
+    /// Whether there is room for so many units more.
     #[inline]
     pub fn fits(&self, width: usize) -> bool
         ensures { IsTrue result ↔ (depth self.now.values + width ≤ self.now.room) }
@@ -54,6 +56,7 @@ impl Operands {
         width <= self.room - self.taken
     }
 
+    /// The value on top.
     #[inline]
     pub fn top(&self) -> Option<Value>
         ensures { MatchOption result (self.now.values ≡ []) (λ top. self.now.values ≡ top ∷ drop 1 self.now.values) }
@@ -91,6 +94,7 @@ impl Operands {
         }
     }
 
+    /// Takes the value on top off.
     #[inline]
     pub fn pop(&mut self) -> Option<Value>
         ensures values { MatchOption result ((self.old.values ≡ []) × (self.new.values ≡ [])) (λ top. (self.old.values ≡ top ∷ self.new.values) × (depth self.new.values + width top ≤ self.new.room)) }
@@ -115,12 +119,12 @@ impl Operands {
         self.items.push_reserved(v);
     }
 
-    /// Whether they take so many places or more.
+    /// Whether they take so many units or more.
     #[inline]
-    pub fn is_deep(&self, places: usize) -> bool
-        ensures { result ≡ nat_le places (depth self.now.values) }
+    pub fn is_deep(&self, units: usize) -> bool
+        ensures { result ≡ nat_le units (depth self.now.values) }
     {
-        places <= self.taken
+        units <= self.taken
     }
 
     /// Takes two values off, and puts one on top.

@@ -12,7 +12,7 @@ pub enum StuckKind {
     LocalOut,
     /// An operand of another kind than is wanted, or an entry of the constant pool.
     WrongKind,
-    /// No instruction at the place.
+    /// No instruction of this number.
     PcOut,
     /// No method is selected, or it has no code and isn't built in.
     NoMethod,

@@ -27,6 +27,7 @@ impl<T> Model for Seq<T> {
 impl<T> Seq<T> {
     ghost use Rattle.vm_state.specs.Lends.{lends_item};
 
+    /// No items.
     pub fn new(alloc: Global) -> Seq<T>
         ensures { result ≡ [] }
     {
@@ -44,6 +45,7 @@ impl<T> Seq<T> {
         })
     }
 
+    /// How many items they are.
     #[inline]
     pub fn len(&self) -> usize
         ensures { result ≡ length self.now }
@@ -51,6 +53,7 @@ impl<T> Seq<T> {
         self.items.len()
     }
 
+    /// The items.
     #[inline]
     pub fn as_slice(&self) -> &[T]
         ensures { result.now ≡ self.now }
@@ -58,6 +61,7 @@ impl<T> Seq<T> {
         &self.items
     }
 
+    /// The item with this number, if it is there.
     #[inline]
     pub fn get(&self, at: usize) -> Option<&T>
         ensures { option_copied result ≡ slice_get self.now at }
@@ -65,6 +69,7 @@ impl<T> Seq<T> {
         self.items.get(at)
     }
 
+    /// The item with this number.
     #[inline]
     pub fn at(&self, at: usize) -> &T
         requires { at < length self.now }
@@ -73,6 +78,7 @@ impl<T> Seq<T> {
         &self.items[at]
     }
 
+    /// The item with this number, to be changed.
     #[inline]
     pub fn at_mut(&mut self, at: usize) -> &mut T
         requires { at < length self.old }
@@ -82,6 +88,7 @@ impl<T> Seq<T> {
         &mut self.items[at]
     }
 
+    /// Appends an item.
     #[inline]
     pub fn push(&mut self, item: T) -> Result<(), AllocError>
     where

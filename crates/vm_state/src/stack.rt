@@ -27,6 +27,7 @@ impl<T> Model for Stack<T> {
 impl<T> Stack<T> {
     ghost use Rattle.vm_state.specs.Lends.{lends_top, lends_under};
 
+    /// No items.
     pub fn new(alloc: Global) -> Stack<T>
         ensures { result ≡ [] }
     {
@@ -35,6 +36,7 @@ impl<T> Stack<T> {
         }
     }
 
+    /// How many items they are.
     #[inline]
     pub fn len(&self) -> usize
         ensures { result ≡ length self.now }
@@ -42,6 +44,7 @@ impl<T> Stack<T> {
         self.items.len()
     }
 
+    /// The item on top.
     #[inline]
     pub fn top(&self) -> Option<&T>
         ensures { MatchOption result (self.now ≡ []) (λ top. self.now ≡ top.now ∷ drop 1 self.now) }
@@ -70,6 +73,7 @@ impl<T> Stack<T> {
         &self.items[self.items.len() - 1 - at]
     }
 
+    /// The item on top, to be changed.
     #[inline]
     pub fn top_mut(&mut self) -> &mut T
         requires { 0 < length self.old }
@@ -100,6 +104,7 @@ impl<T> Stack<T> {
         self.items.push(item)
     }
 
+    /// Takes the item on top off.
     #[inline]
     pub fn pop(&mut self) -> Option<T>
         ensures { MatchOption result ((self.old ≡ []) × (self.new ≡ [])) (λ top. self.old ≡ top ∷ self.new) }

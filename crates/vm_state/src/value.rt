@@ -27,7 +27,7 @@ pub enum Value {
 }
 
 impl Value {
-    /// How many places it takes among operands and locals.
+    /// How many units of depth it takes, or local variables: its category (JVMS 2.6.1, 2.6.2, 2.11.1).
     #[inline]
     pub fn width(self) -> usize
         ensures { result ≡ width self }
@@ -38,6 +38,7 @@ impl Value {
         }
     }
 
+    /// The number of an Int.
     #[inline]
     pub fn as_int(self) -> Option<i32>
         ensures { result ≡ as_int self }
@@ -48,6 +49,7 @@ impl Value {
         }
     }
 
+    /// The number of a Long.
     #[inline]
     pub fn as_long(self) -> Option<i64>
         ensures { result ≡ as_long self }
@@ -79,6 +81,7 @@ impl Value {
         }
     }
 
+    /// Whether it is null.
     #[inline]
     pub fn is_null(self) -> bool
         ensures { result ≡ is_null self }
@@ -89,6 +92,7 @@ impl Value {
         }
     }
 
+    /// Whether it is a text.
     #[inline]
     pub fn is_text(self) -> bool
         ensures { result ≡ is_text self }
@@ -148,7 +152,7 @@ impl Value {
     }
 }
 
-/// How many places a value of this kind takes.
+/// How many units of depth, or local variables, a value of this kind takes.
 #[inline]
 pub fn kind_width(kind: ValueKind) -> usize
     ensures { result ≡ kind_width kind }

@@ -7,11 +7,11 @@ loop-instr-init c = offsets_none c.args.instrs.now c.push.new.self.items (c.in_o
 
 pub overflow_add-at : goal.overflow_add-at
 overflow_add-at c =
-    omega (arith, (next_offset c.args.instrs.now c.loop-instr.instr-index _ c.loop-instr.at c.byte_count-at.result c.loop-instr-test.true c.loop-instr.invariant.next c.byte_count-at.ensures).1)
+    omega (arith, (next_offset c.args.instrs.now c.loop-instr.instr-index _ c.loop-instr.at c.size-at.result c.loop-instr-test.true c.loop-instr.invariant.next c.size-at.ensures).1)
 
 pub loop-instr-preserved : goal.loop-instr-preserved
 loop-instr-preserved c =
-    let e = (next_offset c.args.instrs.now c.loop-instr.instr-index _ c.loop-instr.at c.byte_count-at.result c.loop-instr-test.true c.loop-instr.invariant.next c.byte_count-at.ensures).0 in
+    let e = (next_offset c.args.instrs.now c.loop-instr.instr-index _ c.loop-instr.at c.size-at.result c.loop-instr-test.true c.loop-instr.invariant.next c.size-at.ensures).0 in
     rw c.in_ok-push-2.ensures.items (offsets_more c.args.instrs.now c.loop-instr.instr-index c.loop-instr.at _ c.loop-instr.offsets.items c.loop-instr.invariant e)
 
 pub returns-clause-not_falling : goal.returns-clause-not_falling

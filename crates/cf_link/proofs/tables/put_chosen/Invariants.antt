@@ -5,4 +5,4 @@ use Rattle.cf_link.proofs.tables.put_chosen.Given as goal
 
 abbrev pub invariant-loop-method : goal.invariant-loop-method
 invariant-loop-method l =
-    l.places ≡ l.initial.places ++ map (chosen l.classes l.class) (take l.method-index (methods_of l.classes l.of))
+    l.slots ≡ l.initial.slots ++ map (chosen l.classes l.class) (take l.method-index (methods_of l.classes l.of))

@@ -1,5 +1,5 @@
 use Rattle.std.proofs.Common.{◌≡◌, drop}
-use Rattle.cf_link.specs.Places.{face_of}
+use Rattle.cf_link.specs.TableSlots.{face_of}
 use Rattle.cf_link.proofs.targets.face_of.Given as goal
 
 abbrev pub invariant-loop-face : goal.invariant-loop-face

@@ -9,17 +9,17 @@ use Rattle.cf_read.proofs.members.read_all_fields.Goals as goal
 
 pub returns-in_err-field : goal.returns-in_err-field
 returns-in_err-field c =
-    let p = err_from_is_err_and c.from_residual.result c.from_residual.ensures.1 in
+    let p = err_from_is_err_and c.from_residual-in_err-field.result c.from_residual-in_err-field.ensures.1 in
     let pool = c.args.pool.now in
     rw (p.1, p.2) (members_end (field_at pool) (field_key pool) c.in_err-field.field-0.0 c.loop.fields.items c.args.count c.loop.counter (map (key_at pool) c.loop.members.keys.items) c.loop.rest.now (members_at (field_at pool) (field_key pool) c.args.count [] c.args.bytes.now) c.loop-test.true c.in_err-field.ensures c.loop.invariant.read)
 
 pub loop-init : goal.loop-init
 loop-init c =
     let pool = c.args.pool.now in
-    let keys = c.no_members-members.ensures.keys in
+    let keys = c.in_ok-members.ensures.keys in
     record {
-      read = members_begin (field_at pool) (field_key pool) c.new-fields.result.items c.args.count (map (key_at pool) c.no_members-members.result.keys.items) c.args.bytes.now c.new-fields.ensures.items (ap (map (key_at pool)) keys);
-      seen = rw keys (c.no_members-members.ensures.seen c.args.texts.now);
+      read = members_begin (field_at pool) (field_key pool) c.in_ok-fields.fields.items c.args.count (map (key_at pool) c.in_ok-members.members.keys.items) c.args.bytes.now c.in_ok-fields.ensures.items (ap (map (key_at pool)) keys);
+      seen = rw keys (c.in_ok-members.ensures.seen c.args.texts.now);
       many = ap length keys;
     }
 

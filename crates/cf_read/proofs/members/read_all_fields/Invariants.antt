@@ -9,6 +9,6 @@ abbrev pub invariant-loop : goal.invariant-loop
 invariant-loop l = record {
   read : with_front l.fields.items (members_at (field_at l.pool) (field_key l.pool) (l.count - l.counter) (map (key_at l.pool) l.members.keys.items) l.rest)
       ≡ members_at (field_at l.pool) (field_key l.pool) l.count [] l.bytes;
-  seen : AreSeen l.texts l.members.numbers l.members.keys.items;
+  seen : AreSeen l.texts l.members.firsts.items l.members.others l.members.keys.items;
   many : length l.members.keys.items ≡ l.counter;
 }

@@ -9,17 +9,17 @@ use Rattle.cf_read.proofs.methods.read_all_methods.Goals as goal
 
 pub returns-in_err-method : goal.returns-in_err-method
 returns-in_err-method c =
-    let p = err_from_is_err_and c.from_residual.result c.from_residual.ensures.1 in
+    let p = err_from_is_err_and c.from_residual-in_err-method.result c.from_residual-in_err-method.ensures.1 in
     let pool = c.args.pool.now in
     rw (p.1, p.2) (members_end (method_at pool) (method_key pool) c.in_err-method.field-0.0 (map method_of c.loop.methods.items) c.args.count c.loop.counter (map (key_at pool) c.loop.members.keys.items) c.loop.rest.now (members_at (method_at pool) (method_key pool) c.args.count [] c.args.bytes.now) c.loop-test.true c.in_err-method.ensures c.loop.invariant.read)
 
 pub loop-init : goal.loop-init
 loop-init c =
     let pool = c.args.pool.now in
-    let keys = c.no_members-members.ensures.keys in
+    let keys = c.in_ok-members.ensures.keys in
     record {
-      read = members_begin (method_at pool) (method_key pool) (map method_of c.new-methods.result.items) c.args.count (map (key_at pool) c.no_members-members.result.keys.items) c.args.bytes.now (ap (map method_of) c.new-methods.ensures.items) (ap (map (key_at pool)) keys);
-      seen = rw keys (c.no_members-members.ensures.seen c.args.texts.now);
+      read = members_begin (method_at pool) (method_key pool) (map method_of c.in_ok-methods.methods.items) c.args.count (map (key_at pool) c.in_ok-members.members.keys.items) c.args.bytes.now (ap (map method_of) c.in_ok-methods.ensures.items) (ap (map (key_at pool)) keys);
+      seen = rw keys (c.in_ok-members.ensures.seen c.args.texts.now);
       many = ap length keys;
     }
 

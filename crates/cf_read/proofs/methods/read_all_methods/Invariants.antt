@@ -9,6 +9,6 @@ abbrev pub invariant-loop : goal.invariant-loop
 invariant-loop l = record {
   read : with_front (map method_of l.methods.items) (members_at (method_at l.pool) (method_key l.pool) (l.count - l.counter) (map (key_at l.pool) l.members.keys.items) l.rest)
       ≡ members_at (method_at l.pool) (method_key l.pool) l.count [] l.bytes;
-  seen : AreSeen l.texts l.members.numbers l.members.keys.items;
+  seen : AreSeen l.texts l.members.firsts.items l.members.others l.members.keys.items;
   many : length l.members.keys.items ≡ l.counter;
 }

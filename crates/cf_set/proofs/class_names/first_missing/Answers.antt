@@ -10,9 +10,9 @@ returns-in-Some c =
     let file = c.index-files-i.result in
     let names = c.args.names.now in
     let there : slice_get files c.loop-i.i ≡ Some file = slice_get_read files _ c.loop-i.i file refl c.loop-i-test.true c.index-files-i.is in
-    let found : LacksAt names file.pool c.in-Some.place × NoneBefore (LacksAt names file.pool) c.in-Some.place =
-    subst (λ pool. LacksAt names pool c.in-Some.place × NoneBefore (LacksAt names pool) c.in-Some.place) (c.as_slice.ensures ∙ sym (ap (λ f. f.pool) c.index-files-i.is)) c.in-Some.ensures in
-    first_no_class files c.loop-i.i c.in-Some.place file names c.requires there found.0 found.1 c.loop-i.invariant
+    let found : LacksAt names file.pool c.in-Some.number × NoneBefore (LacksAt names file.pool) c.in-Some.number =
+    subst (λ pool. LacksAt names pool c.in-Some.number × NoneBefore (LacksAt names pool) c.in-Some.number) (c.as_slice.ensures ∙ sym (ap (λ f. f.pool) c.index-files-i.is)) c.in-Some.ensures in
+    first_no_class files c.loop-i.i c.in-Some.number file names c.requires there found.0 found.1 c.loop-i.invariant
 
 pub loop-i-preserved : goal.loop-i-preserved
 loop-i-preserved c =

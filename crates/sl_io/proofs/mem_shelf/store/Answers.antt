@@ -1,12 +1,12 @@
 use Rattle.std.proofs.Common.{◌≡◌, List, ℕ, None, Vec, map, subst}
 use Rattle.std.specs.declared.alloc.Global.{Global}
-use Rattle.sl_io.specs.Held.{stored, file_in, IsPlace}
-use Rattle.sl_io.proofs.Places.{replaced_at, added_last}
+use Rattle.sl_io.specs.Held.{stored, file_in, IsNumberOf}
+use Rattle.sl_io.proofs.Numbers.{replaced_at, added_last}
 use Rattle.sl_io.proofs.mem_shelf.store.Goals as goal
 
 pub returns-in-Some-clause-ok : goal.returns-in-Some-clause-ok
 returns-in-Some-clause-ok c =
-    let P : List (List ℕ × Vec ℕ Global) → Type 0 = λ files. IsPlace (map stored files) c.args.name.now c.in-Some.i in
+    let P : List (List ℕ × Vec ℕ Global) → Type 0 = λ files. IsNumberOf (map stored files) c.args.name.now c.in-Some.i in
     let here = subst P c.deref.ensures.value c.in-Some.ensures in
     replaced_at c.args.files.now.items c.in-Some.i c.args.name.now c.args.bytes.now c.index_mut.result.now c.in_ok-copy.copy here c.index_mut.ensures.value c.in_ok-copy.ensures.items
 

@@ -1,5 +1,5 @@
 use Rattle.sl_lexer.proofs.Unique.{comes_to, no_both, one_lex, one_fault}
-use Rattle.sl_lexer.proofs.Places.{lex_in, fault_in}
+use Rattle.sl_lexer.proofs.Within.{lex_in, fault_in}
 use Rattle.sl_lexer.proofs.laws.lexing.Goals as goal
 
 pub returns-clause-some : goal.returns-clause-some

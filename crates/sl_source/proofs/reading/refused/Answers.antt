@@ -10,10 +10,10 @@ real : (text : List ℕ) (k : LexKind) (s : Span) (b : Bool) → (k ≡ Memory) 
 real text k s b (inl e) t f = absurd (true≢false (sym (t e) ∙ f))
 real text k s b (inr x) t f = x
 
-pub place-requires : goal.place-requires
-place-requires c =
+pub spot_at-requires : goal.spot_at-requires
+spot_at-requires c =
     c.lexing.ensures.begins c.args.text.now c.args.fault.kind c.args.fault.span
     (real c.args.text.now c.args.fault.kind c.args.fault.span c.eq.result c.requires.found (λ e. c.eq.ensures ∙ rw e refl) c.if-eq.false)
 
 pub returns : goal.returns
-returns c = lexical (real c.args.text.now c.args.fault.kind c.args.fault.span c.eq.result c.requires.found (λ e. c.eq.ensures ∙ rw e refl) c.if-eq.false) c.place.ensures
+returns c = lexical (real c.args.text.now c.args.fault.kind c.args.fault.span c.eq.result c.requires.found (λ e. c.eq.ensures ∙ rw e refl) c.if-eq.false) c.spot_at.ensures

@@ -9,13 +9,13 @@ real : (tokens : List Token) (fault : ParseFault) (b : Bool) → (fault.kind ≡
 real tokens fault b (inl e) t f = absurd (true≢false (sym (t e) ∙ f))
 real tokens fault b (inr x) t f = x
 
-pub place-requires : goal.place-requires
-place-requires c =
+pub spot_at-requires : goal.spot_at-requires
+spot_at-requires c =
     let tokens = c.requires.tokens in
     let read = c.lexing.ensures.within c.args.text.now tokens.read tokens.lexed in
     let all = c.separated.ensures.within c.args.text.now tokens.read c.args.tokens.now (length c.args.text.now) tokens.separated read in
-    c.placing.ensures.within c.args.tokens.now c.args.fault (length c.args.text.now)
+    c.parsing.ensures.within c.args.tokens.now c.args.fault (length c.args.text.now)
     (real c.args.tokens.now c.args.fault c.eq.result c.requires.found (λ e. c.eq.ensures ∙ rw e refl) c.if-eq.false) all
 
 pub returns : goal.returns
-returns c = syntactic c.args.tokens.now c.requires.tokens (real c.args.tokens.now c.args.fault c.eq.result c.requires.found (λ e. c.eq.ensures ∙ rw e refl) c.if-eq.false) c.place.ensures
+returns c = syntactic c.args.tokens.now c.requires.tokens (real c.args.tokens.now c.args.fault c.eq.result c.requires.found (λ e. c.eq.ensures ∙ rw e refl) c.if-eq.false) c.spot_at.ensures

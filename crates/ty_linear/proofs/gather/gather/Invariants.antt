@@ -2,9 +2,9 @@ use Rattle.std.proofs.Common.{◌≡◌, ◌≤◌, length, reverse, drop}
 use Rattle.ty_linear.specs.Gather.{gathered, AreMarked}
 use Rattle.ty_linear.proofs.gather.gather.Given as goal
 
-abbrev pub invariant-loop-place : goal.invariant-loop-place
-invariant-loop-place l = record {
-  gathered : l.found.items ≡ gathered l.initial.found.items (reverse (drop l.place l.classes));
+abbrev pub invariant-loop-number : goal.invariant-loop-number
+invariant-loop-number l = record {
+  gathered : l.found.items ≡ gathered l.initial.found.items (reverse (drop l.number l.classes));
   marked : AreMarked l.marks l.stamp l.found.items;
-  within : l.place ≤ length l.classes;
+  within : l.number ≤ length l.classes;
 }

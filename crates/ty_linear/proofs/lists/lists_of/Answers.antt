@@ -7,8 +7,8 @@ use Rattle.ty_linear.specs.Linear.{rows, parents_of}
 use Rattle.ty_linear.proofs.Tables.{Have, Have-more, Have-parents}
 use Rattle.ty_linear.proofs.lists.lists_of.Goals as goal
 
-pub loop-place-init : goal.loop-place-init
-loop-place-init c = record {
+pub loop-number-init : goal.loop-number-init
+loop-number-init c = record {
   lists = c.in_ok-lists.ensures.count;
   marks = ap length (c.in_ok-marks.ensures.items_if_clones_equal (λ y h. h)) ∙ length-replicate (length c.args.parents.now) 0;
   below = (rw (c.in_ok-marks.ensures.items_if_clones_equal (λ y h. h)) (All-replicate (λ mark. mark ≤ 0) (length c.args.parents.now) 0 (omega arith)));
@@ -17,33 +17,33 @@ loop-place-init c = record {
 
 pub linearisation-requires-clause-above : goal.linearisation-requires-clause-above
 linearisation-requires-clause-above c =
-    let class = get_or c.args.order.now c.loop-place.place 0 in
-    let have = Have-parents (rows c.args.parents.now) c.loop-place.lists.items c.args.order.now (parents_of (rows c.args.parents.now) class) c.loop-place.place
-    c.loop-place.invariant.have (c.requires.order.behind c.loop-place.place (omega arith)) in
+    let class = get_or c.args.order.now c.loop-number.number 0 in
+    let have = Have-parents (rows c.args.parents.now) c.loop-number.lists.items c.args.order.now (parents_of (rows c.args.parents.now) class) c.loop-number.number
+    c.loop-number.invariant.have (c.requires.order.behind c.loop-number.number (omega arith)) in
     rw c.deref.ensures.value have
 
 pub linearisation-requires-clause-fresh : goal.linearisation-requires-clause-fresh
 linearisation-requires-clause-fresh c =
-    let below : All (λ mark. mark ≤ c.loop-place.place) c.deref_mut.result.now = rw c.deref_mut.ensures.value c.loop-place.invariant.below in
+    let below : All (λ mark. mark ≤ c.loop-number.number) c.deref_mut.result.now = rw c.deref_mut.ensures.value c.loop-number.invariant.below in
     λ k d h. let low = below k d h in omega (arith, low)
 
-pub loop-place-preserved : goal.loop-place-preserved
-loop-place-preserved c =
-    let class = get_or c.args.order.now c.loop-place.place 0 in
-    let long : length c.linearisation.new.marks ≡ c.loop-place.marks.len = omega (arith, c.linearisation.auto.marks, c.deref_mut.ensures.len) in
-    let same : take c.loop-place.marks.len (c.linearisation.new.marks ++ drop (length c.linearisation.new.marks) c.loop-place.marks.items) ≡ c.linearisation.new.marks
-    = take_at c.linearisation.new.marks (drop (length c.linearisation.new.marks) c.loop-place.marks.items) c.loop-place.marks.len long in
+pub loop-number-preserved : goal.loop-number-preserved
+loop-number-preserved c =
+    let class = get_or c.args.order.now c.loop-number.number 0 in
+    let long : length c.linearisation.new.marks ≡ c.loop-number.marks.len = omega (arith, c.linearisation.auto.marks, c.deref_mut.ensures.len) in
+    let same : take c.loop-number.marks.len (c.linearisation.new.marks ++ drop (length c.linearisation.new.marks) c.loop-number.marks.items) ≡ c.linearisation.new.marks
+    = take_at c.linearisation.new.marks (drop (length c.linearisation.new.marks) c.loop-number.marks.items) c.loop-number.marks.len long in
     let count : length (rows c.args.parents.now) ≡ length c.args.parents.now = length-map c.args.parents.now (λ (r : Vec ℕ Global). r.items) in
-    let low : class < length c.loop-place.lists.items = omega (arith, c.requires.order.within c.loop-place.place 0 (omega arith)) in
+    let low : class < length c.loop-number.lists.items = omega (arith, c.requires.order.within c.loop-number.number 0 (omega arith)) in
     record {
-      lists = length-set c.loop-place.lists.items class c.in_ok-list.list ∙ c.loop-place.invariant.lists;
+      lists = length-set c.loop-number.lists.items class c.in_ok-list.list ∙ c.loop-number.invariant.lists;
       marks = ap length same ∙ omega arith;
       below = (rw same c.in_ok-list.ensures.below);
-      have = Have-more (rows c.args.parents.now) c.loop-place.lists.items c.args.order.now c.loop-place.place c.in_ok-list.list (omega arith)
-          low c.in_ok-list.ensures.list c.loop-place.invariant.have;
+      have = Have-more (rows c.args.parents.now) c.loop-number.lists.items c.args.order.now c.loop-number.number c.in_ok-list.list (omega arith)
+          low c.in_ok-list.ensures.list c.loop-number.invariant.have;
     }
 
 pub returns-clause-each : goal.returns-clause-each
 returns-clause-each c =
-    let all : take c.loop-place.place c.args.order.now ≡ c.args.order.now = take_all c.loop-place.place c.args.order.now (omega arith) in
-    subst (Have (rows c.args.parents.now) c.loop-place.lists.items) all c.loop-place.invariant.have
+    let all : take c.loop-number.number c.args.order.now ≡ c.args.order.now = take_all c.loop-number.number c.args.order.now (omega arith) in
+    subst (Have (rows c.args.parents.now) c.loop-number.lists.items) all c.loop-number.invariant.have

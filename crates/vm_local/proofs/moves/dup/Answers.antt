@@ -9,7 +9,7 @@ dup_under-requires c =
     let is = sym c.whole.ensures.value ∙ c.in-Some.is in
     record {
       pc = c.requires;
-      count = whole_depth c.args.places vs count is;
+      count = whole_depth c.args.units vs count is;
       few = c.in-Some.ensures.few;
-      more = whole_more c.args.places c.args.under vs count c.whole-more.result is c.whole-more.ensures.value c.whole-more.ensures.few;
+      more = whole_more c.args.units c.args.under vs count c.whole-more.result is c.whole-more.ensures.value c.whole-more.ensures.few;
     }

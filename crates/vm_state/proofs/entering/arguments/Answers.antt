@@ -1,6 +1,6 @@
 use Rattle.std.proofs.Common.{◌≡◌, ◌-◌, ◌++◌, suc, take, drop, Some, ap, sym, ◌∙◌, arith}
 use Rattle.std.specs.Prelude.{slice_get}
-use Rattle.vm_state.specs.Local.{placed, slots}
+use Rattle.vm_state.specs.Local.{as_locals, local_values}
 use Rattle.vm_state.proofs.Lists.{drop_item, slice_get-take}
 use Rattle.vm_state.proofs.entering.arguments.Goals as goal
 
@@ -13,5 +13,5 @@ loop-left-preserved c =
     let le = c.loop-left.invariant.0 in
     let is : slice_get ts k ≡ Some x = slice_get-take xs c.args.count k (omega arith) ∙ sym c.in-Some.ensures in
     let count : suc k ≡ c.loop-left.left = omega arith in
-    let made = c.loop-left.invariant.1 ∙ ap (λ n. placed (drop n ts)) (sym count) in
-    (omega arith, c.in_ok-add_slots.ensures ∙ ap (λ l. l ++ slots x) made ∙ sym (ap placed (drop_item ts k x is)))
+    let made = c.loop-left.invariant.1 ∙ ap (λ n. as_locals (drop n ts)) (sym count) in
+    (omega arith, c.in_ok-add_locals.ensures ∙ ap (λ l. l ++ local_values x) made ∙ sym (ap as_locals (drop_item ts k x is)))

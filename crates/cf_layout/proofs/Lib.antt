@@ -1,0 +1,4 @@
+pub mod OneKind
+pub mod Alike
+pub mod OneList
+pub mod OneSet

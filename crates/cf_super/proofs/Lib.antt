@@ -1,0 +1,4 @@
+pub mod Found
+pub mod Above
+pub mod Cycles
+pub mod Shaped

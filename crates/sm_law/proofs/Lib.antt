@@ -1,0 +1,12 @@
+pub mod Alike
+pub mod Children
+pub mod Seeing
+pub mod Chains
+pub mod Going
+pub mod Carrying
+pub mod Receiving
+pub mod Beginning
+pub mod Leaving
+pub mod Throwing
+pub mod Waiting
+pub mod Counting

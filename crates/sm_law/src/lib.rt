@@ -1,0 +1,2 @@
+//! What every lowering cites: copied nodes, and what stands for the others.
+#![tactic(auto)]

@@ -1,6 +1,0 @@
-use Rattle.ty_flow.specs.Settled.{ClassSettled}
-use Rattle.ty_flow.proofs.set_first.locals_are_set_first.Goals as goal
-
-pub returns : goal.returns
-unfolding ClassSettled
-returns c = c.classes_are_set_first.ensures

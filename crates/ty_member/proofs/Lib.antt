@@ -1,0 +1,5 @@
+mod Spelling
+mod PreludeNames
+mod Ascii
+mod Each
+mod Filed
