@@ -39,7 +39,7 @@ fn read(alloc: Global, source: &str) -> Result<String, Fail> {
             let kind = fault.kind;
             let from = fault.span.from;
             let to = fault.span.to;
-            Ok(format!(in alloc; "{kind} {from}-{to}")?)
+            Ok(format!(in alloc; "{kind:?} {from}-{to}")?)
         }
     }
 }
