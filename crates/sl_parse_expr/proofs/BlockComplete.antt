@@ -6,6 +6,7 @@ use Rattle.sl_text.specs.declared.span.Span.{Span}
 use Rattle.sl_ast.specs.declared.token.Token.{Token}
 use Rattle.sl_ast.specs.declared.type_tree.TypeTree.{TypeTree}
 use Rattle.sl_ast.specs.declared.expr.Expr.{Expr}
+use Rattle.sl_ast.specs.declared.pattern.Pattern.{Pattern}
 use Rattle.sl_ast.specs.declared.args.ParArgs.{ParArgs}
 use Rattle.sl_ast.specs.declared.block.Block.{Block}
 use Rattle.sl_ast.specs.declared.block.Stat.{Stat}
@@ -17,7 +18,7 @@ use Rattle.sl_parse_expr.specs.Tokens.{separates, separator_of}
 use Rattle.sl_parse_expr.specs.Starts.{begins_stat, begins_binding}
 use Rattle.sl_parse_expr.specs.LastNew.{stat_ends_in_new}
 use Rattle.sl_parse_expr.specs.Trees.{block_tree}
-use Rattle.sl_parse_expr.specs.Reading.{Outcome, State, and_then, ◌>>=◌, ◌>>◌, pure, stuck, ahead, rest, nothing, choose, absorb, settle, fold, clean}
+use Rattle.sl_parse_expr.specs.Reading.{Outcome, State, and_then, ◌>>=◌, ◌>>◌, pure, stuck, ahead, rest, nothing, choose, absorb, settle, fold, clean, Reader}
 use Rattle.sl_parse_expr.specs.Rules.{next_arg, more_args, some_args, no_args, par_args, typed, local, expr_as_stat, stat, apart, stat_item, block_item, stats, block, braces, at_item, add_item, no_brace, bare_line, behind_bare, behind_new, behind_item}
 use Rattle.sl_parse_expr.specs.PatternRules.{pattern}
 use Rattle.sl_parse_expr.specs.Levels.{expr}
@@ -28,13 +29,13 @@ use Rattle.sl_parse_expr.specs.Grammar as grammar
 use Rattle.sl_parse_expr.proofs.Theory.{Held, ok_of, decide, fold_goes, fold_stays}
 use Rattle.sl_parse_expr.proofs.Choices.{both_false}
 use Rattle.sl_parse_expr.proofs.Begun.{word_reads}
-use Rattle.sl_parse_expr.proofs.Level.{level, pattern_level}
-use Rattle.sl_parse_expr.proofs.Good.{good_next_arg, good_block_item, item_none}
+use Rattle.sl_parse_expr.proofs.Good.{item_none}
 use Rattle.sl_parse_expr.proofs.Loops.{Eats, eats_of}
 use Rattle.sl_parse_expr.proofs.Fronts.{front, are_same, binding_ahead, separator_ahead}
-use Rattle.sl_parse_expr.proofs.ExprFronts.{front_expr, front_stat, no_close, no_binding, no_separator}
+use Rattle.sl_parse_expr.proofs.ExprFronts.{front_stat, no_close, no_binding, no_separator}
 use Rattle.sl_parse_expr.proofs.Reaches.{Reaches, Lands, From, cleared, next_clean, upon, upon_clean, map, map_clean, through_clean, marked, closing, optional_clean, left, right, left_clean, right_clean, stays, goes}
 use Rattle.sl_parse_expr.proofs.Complete.{reads_name, reads_binding, reads_separator, reads_type}
+use Rattle.sl_parse_expr.proofs.Inside.{CompleteExprs}
 
 -- ---- what stands behind a statement: what is held then goes away, or a line end behind a bare `new` does
 
@@ -85,25 +86,23 @@ reads_behind true e b (lines_held {t = t} {u = u} k l) h = record { held = t ∷
 
 -- ---- the rules
 
-module _ (n : ℕ) (reads : (x : Expr) (a r : List Token) → IsExpr n x a r → Reaches (expr n) [] a x r) where
-  next_arg_eats : Eats (next_arg (expr n) (pattern n))
-  next_arg_eats = eats_of n (good_next_arg n expr pattern (level n) (pattern_level n)) refl
+module _ {exprs : Reader Expr} {patterns : Reader Pattern} {E : Expr → List Token → List Token → Type 0} {Q : Pattern → List Token → List Token → Type 0} (ok : CompleteExprs exprs patterns E Q) where
 
-  reads_next_arg : {s : Span} {x : Expr} {a b c : List Token} → IsWord see.Comma s a b → IsExpr n x b c → Reaches (next_arg (expr n) (pattern n)) [] a x c
+  reads_next_arg : {s : Span} {x : Expr} {a b c : List Token} → IsWord see.Comma s a b → E x b c → Reaches (next_arg exprs patterns) [] a x c
   unfolding next_arg
-  reads_next_arg w h = upon _ (marked see.Comma w) (reads _ _ _ h)
+  reads_next_arg w h = upon _ (marked see.Comma w) (ok.reads _ _ _ h)
 
-  reads_more_args : {ps : List Expr} {m r : List Token} (xs : List Expr) → IsMore see.Comma (IsExpr n) ps m r → From (more_args (expr n) (pattern n) xs) m (xs ++ ps) r
+  reads_more_args : {ps : List Expr} {m r : List Token} (xs : List Expr) → IsMore see.Comma E ps m r → From (more_args exprs patterns xs) m (xs ++ ps) r
   unfolding more_args
-  reads_more_args xs (phrase.no_more {r = r} h) = stays (same see.Comma) (next_arg (expr n) (pattern n)) refl refl refl next_arg_eats xs r h
-  reads_more_args xs (phrase.one_more {x = x} {xs = ys} {a = a} {c = c} {r = r} w h k) = goes (same see.Comma) (next_arg (expr n) (pattern n)) refl refl refl next_arg_eats xs x ys a c r (front (same see.Comma) see.Comma true refl w) (reads_next_arg w h) (reads_more_args (xs ++ x ∷ []) k)
+  reads_more_args xs (phrase.no_more {r = r} h) = stays (same see.Comma) (next_arg exprs patterns) refl refl refl ok.items.arg xs r h
+  reads_more_args xs (phrase.one_more {x = x} {xs = ys} {a = a} {c = c} {r = r} w h k) = goes (same see.Comma) (next_arg exprs patterns) refl refl refl ok.items.arg xs x ys a c r (front (same see.Comma) see.Comma true refl w) (reads_next_arg w h) (reads_more_args (xs ++ x ∷ []) k)
 
-  reads_listed : {ps : List Expr} {t : Span} {a r : List Token} → IsListed (IsExpr n) ps t a r → Lands (choose (same see.CloseParen) (no_args (expr n) (pattern n)) (some_args (expr n) (pattern n))) [] a (ps, t) r
+  reads_listed : {ps : List Expr} {t : Span} {a r : List Token} → IsListed E ps t a r → Lands (choose (same see.CloseParen) (no_args exprs patterns) (some_args exprs patterns)) [] a (ps, t) r
   unfolding no_args some_args
   reads_listed (phrase.none_listed w) = left_clean _ (same see.CloseParen) (front (same see.CloseParen) see.CloseParen true refl w) (map_clean _ (marked see.CloseParen w))
-  reads_listed (phrase.some_listed {x = x} {a = a} {b = b} h m w) = right_clean _ (same see.CloseParen) (no_close (ahead a) (front_expr n x a b h)) (next_clean _ (reads x a b h) (through_clean _ (reads_more_args (x ∷ []) m) (closing see.CloseParen refl refl refl w (map_clean _ (marked see.CloseParen w)))))
+  reads_listed (phrase.some_listed {x = x} {a = a} {b = b} h m w) = right_clean _ (same see.CloseParen) (no_close (ahead a) (ok.fronts x a b h)) (next_clean _ (ok.reads x a b h) (through_clean _ (reads_more_args (x ∷ []) m) (closing see.CloseParen refl refl refl w (map_clean _ (marked see.CloseParen w)))))
 
-  pub reads_par_args : {x : ParArgs} {a r : List Token} → IsParArgs (IsExpr n) (IsPattern n) x a r → Lands (par_args (expr n) (pattern n)) [] a x r
+  pub reads_par_args : {x : ParArgs} {a r : List Token} → IsParArgs E Q x a r → Lands (par_args exprs patterns) [] a x r
   unfolding par_args
   reads_par_args (grammar.par_args w k) = upon_clean _ (marked see.OpenParen w) (map_clean _ (reads_listed k))
 
@@ -112,43 +111,40 @@ module _ (n : ℕ) (reads : (x : Expr) (a r : List Token) → IsExpr n x a r →
   front_typed : (t : TypeTree) (a r : List Token) → IsTyped t a r → same see.Colon (ahead a) ≡ true
   front_typed t a r (grammar.typed w h) = front (same see.Colon) see.Colon true refl w
 
-  reads_typed : (t : TypeTree) (a r : List Token) → IsTyped t a r → Lands (typed (expr n) (pattern n)) [] a (Some t) r
+  reads_typed : (t : TypeTree) (a r : List Token) → IsTyped t a r → Lands (typed exprs patterns) [] a (Some t) r
   unfolding typed
   reads_typed t a r (grammar.typed w h) = upon_clean _ (marked see.Colon w) (map_clean _ (reads_type h))
 
-  reads_stat : {x : Stat} {a r : List Token} → IsStat (IsExpr n) (IsPattern n) x a r → Reaches (stat (expr n) (pattern n)) [] a x r
+  reads_stat : {x : Stat} {a r : List Token} → IsStat E Q x a r → Reaches (stat exprs patterns) [] a x r
   unfolding stat local expr_as_stat
-  reads_stat (grammar.local h1 h2 h3 w h) = left _ begins_binding (binding_ahead h1) (upon _ (reads_binding h1) (upon _ (reads_name h2) (upon _ (optional_clean (same see.Colon) front_typed reads_typed h3) (upon _ (marked see.Equals w) (map _ (reads _ _ _ h))))))
-  reads_stat (grammar.expression {e = e} {a = a} {r = r} h) = right _ begins_binding (no_binding (ahead a) (front_expr n e a r h)) (map _ (reads e a r h))
+  reads_stat (grammar.local h1 h2 h3 w h) = left _ begins_binding (binding_ahead h1) (upon _ (reads_binding h1) (upon _ (reads_name h2) (upon _ (optional_clean (same see.Colon) front_typed reads_typed h3) (upon _ (marked see.Equals w) (map _ (ok.reads _ _ _ h))))))
+  reads_stat (grammar.expression {e = e} {a = a} {r = r} h) = right _ begins_binding (no_binding (ahead a) (ok.fronts e a r h)) (map _ (ok.reads e a r h))
 
   -- ---- blocks
 
   abbrev Stats : Bool → List Stat → List Token → List Token → Type 0
-  Stats = IsSeq begins_stat stat_ends_in_new (IsStat (IsExpr n) (IsPattern n))
-
-  block_item_eats : Eats (block_item (expr n) (pattern n))
-  block_item_eats = eats_of n (good_block_item n expr pattern (level n) (pattern_level n)) refl
+  Stats = IsSeq begins_stat stat_ends_in_new (IsStat E Q)
 
   never : (s : Bool × List Stat) (d : Held) → clean (at_item begins_stat) s see.End d ≡ false
-  never s d = ap (λ (b : Bool). nothing d && b) (item_none n expr pattern (level n) (pattern_level n) s) ∙ both_false (nothing d)
+  never s d = ap (λ (b : Bool). nothing d && b) (item_none s) ∙ both_false (nothing d)
 
   loop : Bool × List Stat → State → Outcome (Bool × List Stat)
-  loop s st = fold (clean (at_item begins_stat)) (block_item (expr n) (pattern n)) add_item s st
+  loop s st = fold (clean (at_item begins_stat)) (block_item exprs patterns) add_item s st
 
-  item_goes : (s : Bool × List Stat) (a : List Token) (y : Option (Stat × Bool)) (r : List Token) → at_item begins_stat s (ahead a) ≡ true → Lands (block_item (expr n) (pattern n)) [] a y r → loop s ([], a) ≡ loop (add_item s y) ([], r)
+  item_goes : (s : Bool × List Stat) (a : List Token) (y : Option (Stat × Bool)) (r : List Token) → at_item begins_stat s (ahead a) ≡ true → Lands (block_item exprs patterns) [] a y r → loop s ([], a) ≡ loop (add_item s y) ([], r)
   unfolding loop
-  item_goes s a y r h g = fold_goes (clean (at_item begins_stat)) (block_item (expr n) (pattern n)) add_item never s [] a y [] r h g.reads (block_item_eats.eats ([], a) y ([], r) g.reads)
+  item_goes s a y r h g = fold_goes (clean (at_item begins_stat)) (block_item exprs patterns) add_item never s [] a y [] r h g.reads (ok.items.item.eats ([], a) y ([], r) g.reads)
 
   loop_ends : (s : Bool × List Stat) (a : List Token) → at_item begins_stat s (ahead a) ≡ false → loop s ([], a) ≡ ok_of s [] a
   unfolding loop
-  loop_ends s a h = fold_stays (clean (at_item begins_stat)) (block_item (expr n) (pattern n)) add_item never s [] a h
+  loop_ends s a h = fold_stays (clean (at_item begins_stat)) (block_item exprs patterns) add_item never s [] a h
 
-  reads_apart : {a b : List Token} → phrase.IsOne separator_of tt a b → Lands (block_item (expr n) (pattern n)) [] a None b
+  reads_apart : {a b : List Token} → phrase.IsOne separator_of tt a b → Lands (block_item exprs patterns) [] a None b
   unfolding block_item apart
   reads_apart h = left_clean _ separates (separator_ahead h) (map_clean (λ _. None) (reads_separator h))
 
-  reads_item : {x : Stat} {a b : List Token} → separates (ahead a) ≡ false → IsStat (IsExpr n) (IsPattern n) x a b → (stat_ends_in_new x && body_follows b) ≡ false
-      → (e : Held) × (c : List Token) × Pending e × (e ++ c ≡ b) × Lands (block_item (expr n) (pattern n)) [] a (Some (x, nothing e)) c
+  reads_item : {x : Stat} {a b : List Token} → separates (ahead a) ≡ false → IsStat E Q x a b → (stat_ends_in_new x && body_follows b) ≡ false
+      → (e : Held) × (c : List Token) × Pending e × (e ++ c ≡ b) × Lands (block_item exprs patterns) [] a (Some (x, nothing e)) c
   unfolding block_item stat_item
   reads_item {x} {a} {b} free h k =
       let g = reads_stat h in
@@ -197,7 +193,7 @@ module _ (n : ℕ) (reads : (x : Expr) (a r : List Token) → IsExpr n x a r →
   reads_seq (phrase.separated (phrase.token j) k) acc e b (line_held l) i = reads_seq k acc [] b none_held (ap rest i)
   reads_seq (phrase.separated (phrase.token j) k) acc e b (lines_held {u = u} l o) i = reads_seq k acc (u ∷ []) b (line_held o) (ap rest i)
   reads_seq (phrase.item {x = x} {xs = xs} {a = a} {b = m} {r = r} h f k) acc e b p i =
-      let s = front_stat (IsExpr n) (IsPattern n) (front_expr n) h in
+      let s = front_stat E Q ok.fronts h in
       let free = no_separator (ahead a) s in
       let y = reads_item free h f in
       let g = reads_seq k (acc ++ x ∷ []) y.0 y.1 y.2 y.3 in
@@ -210,10 +206,10 @@ module _ (n : ℕ) (reads : (x : Expr) (a r : List Token) → IsExpr n x a r →
       stat_goes true b h = refl
       stat_goes false b h = h
 
-  pub reads_block : {x : Block} {a r : List Token} → IsBlock (IsExpr n) (IsPattern n) x a r → Lands (block (expr n) (pattern n)) [] a x r
+  pub reads_block : {x : Block} {a r : List Token} → IsBlock E Q x a r → Lands (block exprs patterns) [] a x r
   unfolding block absorb stats loop
   reads_block (grammar.block {a = a} k) = let g = reads_seq k [] [] a none_held refl in record { reads = ap (λ (o : Outcome (Bool × List Stat)). and_then o (λ s. pure (block_tree s.1))) g.1 }
 
-  pub reads_braces : {x : Block} {s : Span} {a r : List Token} → IsBraces (IsExpr n) (IsPattern n) x s a r → Lands (braces (expr n) (pattern n)) [] a (x, s) r
+  pub reads_braces : {x : Block} {s : Span} {a r : List Token} → IsBraces E Q x s a r → Lands (braces exprs patterns) [] a (x, s) r
   unfolding braces
   reads_braces (grammar.braces w h z) = upon_clean _ (marked see.OpenBrace w) (upon_clean _ (reads_block h) (map_clean _ (marked see.CloseBrace z)))

@@ -20,6 +20,7 @@ use Rattle.sl_parse_expr.specs.Grammar as grammar
 use Rattle.sl_parse_expr.proofs.Theory.{Held, ok_of}
 use Rattle.sl_parse_expr.proofs.Fronts.{word_ahead}
 use Rattle.sl_parse_expr.proofs.Reaches.{Reaches, From, cleared, upon, map, marked}
+use Rattle.sl_ast.specs.declared.pattern.Pattern.{Pattern}
 
 -- `else_follows` by the three tokens ahead
 abbrev else_by : Ahead → Ahead → Ahead → Bool
@@ -44,25 +45,25 @@ behind_lines q h = refl
 clash : {A : Type 0} (o p q : Ahead) → o ≡ p → o ≡ q → same p q ≡ false → same p p ≡ true → A
 clash o p q i j f g = let k : true ≡ false = sym g ∙ ap (same p) (sym i ∙ j) ∙ f in absurd cc
 
-module _ (n : ℕ) where
+module _ (exprs : Reader Expr) (patterns : Reader Pattern) where
   -- by what is held, as far as it is looked at, and the token ahead
   abbrev by_wait : Waiting → Ahead → Reader (Option Expr)
-  by_wait w o = if same see.Else o then with_else (expr n) (pattern n) else if semi_from w o then hold (third (expr n) (pattern n)) else if line_from w o then hold (second (expr n) (pattern n)) else pure None
+  by_wait w o = if same see.Else o then with_else exprs patterns else if semi_from w o then hold (third exprs patterns) else if line_from w o then hold (second exprs patterns) else pure None
 
   abbrev None_at : Reader (Option Expr) → Held → List Token → Type 0
   None_at q d a = (e : Held) × (b : List Token) × Pending e × (e ++ b ≡ d ++ a) × (q (d, a) ≡ ok_of None e b)
 
-  third_none : (d : Held) (a : List Token) → Pending d → same see.Else (ahead a) ≡ false → None_at (third (expr n) (pattern n)) d a
+  third_none : (d : Held) (a : List Token) → Pending d → same see.Else (ahead a) ≡ false → None_at (third exprs patterns) d a
   unfolding third
-  third_none d a k h = (d, a, k, refl, ap (λ (v : Bool). (if v then with_else (expr n) (pattern n) else pure None) (d, a)) h)
+  third_none d a k h = (d, a, k, refl, ap (λ (v : Bool). (if v then with_else exprs patterns else pure None) (d, a)) h)
 
   -- behind one line end
-  second_none : (o : Ahead) (t u : Token) (b : List Token) → sort t ≡ see.Newline → sort u ≡ o → else_by see.Newline o (ahead b) ≡ false → None_at (second_by (expr n) (pattern n) o (t ∷ [])) (t ∷ []) (u ∷ b)
+  second_none : (o : Ahead) (t u : Token) (b : List Token) → sort t ≡ see.Newline → sort u ≡ o → else_by see.Newline o (ahead b) ≡ false → None_at (second_by exprs patterns o (t ∷ [])) (t ∷ []) (u ∷ b)
   second_none see.Else t u b i j h = absurd cc
   second_none see.Newline t u b i j h = third_none (t ∷ u ∷ []) b (lines_held i j) (behind_lines (ahead b) h)
   second_none o t u b i j h = (t ∷ [], u ∷ b, line_held i, refl, refl)
 
-  second_alone : (t : Token) (a : List Token) → sort t ≡ see.Newline → else_by see.Newline (ahead a) (ahead (rest a)) ≡ false → None_at (second (expr n) (pattern n)) (t ∷ []) a
+  second_alone : (t : Token) (a : List Token) → sort t ≡ see.Newline → else_by see.Newline (ahead a) (ahead (rest a)) ≡ false → None_at (second exprs patterns) (t ∷ []) a
   unfolding second
   second_alone t [] i h = (t ∷ [], [], line_held i, refl, refl)
   second_alone t (u ∷ b) i h = second_none (sort u) t u b i refl h
@@ -85,13 +86,13 @@ module _ (n : ℕ) where
   held_alone t (u ∷ b) i h = held_none (sort u) t u b i refl h
 
   more_none : (o : Ahead) (d : Held) (a : List Token) → Pending d → same see.Else o ≡ false → None_at (by_wait waiting.More o) d a
-  more_none o d a k h = (d, a, k, refl, ap (λ (v : Bool). (if v then with_else (expr n) (pattern n) else pure None) (d, a)) h)
+  more_none o d a k h = (d, a, k, refl, ap (λ (v : Bool). (if v then with_else exprs patterns else pure None) (d, a)) h)
 
-  waited : (t : Token) (a : List Token) (o : Ahead) → sort t ≡ o → other (expr n) (pattern n) (t ∷ [], a) ≡ by_wait (if same see.Newline o then waiting.Line else waiting.More) (ahead a) (t ∷ [], a)
+  waited : (t : Token) (a : List Token) (o : Ahead) → sort t ≡ o → other exprs patterns (t ∷ [], a) ≡ by_wait (if same see.Newline o then waiting.Line else waiting.More) (ahead a) (t ∷ [], a)
   unfolding other
   waited t a o i = ap (λ (z : Ahead). by_wait (if same see.Newline z then waiting.Line else waiting.More) (ahead a) (t ∷ [], a)) i
 
-  other_none : (d : Held) (a : List Token) → Pending d → else_follows (d ++ a) ≡ false → None_at (other (expr n) (pattern n)) d a
+  other_none : (d : Held) (a : List Token) → Pending d → else_follows (d ++ a) ≡ false → None_at (other exprs patterns) d a
   unfolding other
   other_none d [] none_held h = ([], [], none_held, refl, refl)
   other_none d (t ∷ b) none_held h = clean_none (sort t) t b refl h
@@ -102,68 +103,68 @@ module _ (n : ℕ) where
   -- ---- an else
 
   abbrev Else_at : Reader (Option Expr) → Held → List Token → List Token → Type 0
-  Else_at q d a b = (e : Held) × (q (d, a) ≡ with_else (expr n) (pattern n) (e, b))
+  Else_at q d a b = (e : Held) × (q (d, a) ≡ with_else exprs patterns (e, b))
 
-  third_else : (d : Held) (b : List Token) → ahead b ≡ see.Else → third (expr n) (pattern n) (d, b) ≡ with_else (expr n) (pattern n) (d, b)
+  third_else : (d : Held) (b : List Token) → ahead b ≡ see.Else → third exprs patterns (d, b) ≡ with_else exprs patterns (d, b)
   unfolding third
-  third_else d b h = ap (λ (o : Ahead). third_by (expr n) (pattern n) o d (d, b)) h
+  third_else d b h = ap (λ (o : Ahead). third_by exprs patterns o d (d, b)) h
 
-  second_else : (d : Held) (b : List Token) → ahead b ≡ see.Else → second (expr n) (pattern n) (d, b) ≡ with_else (expr n) (pattern n) (d, b)
+  second_else : (d : Held) (b : List Token) → ahead b ≡ see.Else → second exprs patterns (d, b) ≡ with_else exprs patterns (d, b)
   unfolding second
-  second_else d b h = ap (λ (o : Ahead). second_by (expr n) (pattern n) o d (d, b)) h
+  second_else d b h = ap (λ (o : Ahead). second_by exprs patterns o d (d, b)) h
 
-  second_lines : (t u : Token) (b : List Token) → sort u ≡ see.Newline → ahead b ≡ see.Else → second (expr n) (pattern n) (t ∷ [], u ∷ b) ≡ with_else (expr n) (pattern n) (t ∷ u ∷ [], b)
+  second_lines : (t u : Token) (b : List Token) → sort u ≡ see.Newline → ahead b ≡ see.Else → second exprs patterns (t ∷ [], u ∷ b) ≡ with_else exprs patterns (t ∷ u ∷ [], b)
   unfolding second
-  second_lines t u b i h = ap (λ (o : Ahead). second_by (expr n) (pattern n) o (t ∷ []) (t ∷ [], u ∷ b)) i ∙ third_else (t ∷ u ∷ []) b h
+  second_lines t u b i h = ap (λ (o : Ahead). second_by exprs patterns o (t ∷ []) (t ∷ [], u ∷ b)) i ∙ third_else (t ∷ u ∷ []) b h
 
   -- where it stands ahead already
-  ahead_else : (d : Held) (a b : List Token) → a ≡ b → ahead b ≡ see.Else → Else_at (other (expr n) (pattern n)) d a b
+  ahead_else : (d : Held) (a b : List Token) → a ≡ b → ahead b ≡ see.Else → Else_at (other exprs patterns) d a b
   unfolding other
-  ahead_else d a b i h = (d, ap (λ (z : List Token). other (expr n) (pattern n) (d, z)) i ∙ ap (λ (o : Ahead). by_wait (waits d) o (d, b)) h)
+  ahead_else d a b i h = (d, ap (λ (z : List Token). other exprs patterns (d, z)) i ∙ ap (λ (o : Ahead). by_wait (waits d) o (d, b)) h)
 
-  semi_else : (t : Token) (b : List Token) → sort t ≡ see.Semicolon → ahead b ≡ see.Else → Else_at (other (expr n) (pattern n)) [] (t ∷ b) b
+  semi_else : (t : Token) (b : List Token) → sort t ≡ see.Semicolon → ahead b ≡ see.Else → Else_at (other exprs patterns) [] (t ∷ b) b
   unfolding other
   semi_else t b i h = (t ∷ [], ap (λ (o : Ahead). by_wait waiting.Nothing o ([], t ∷ b)) i ∙ third_else (t ∷ []) b h)
 
-  line_else : (t : Token) (b : List Token) → sort t ≡ see.Newline → ahead b ≡ see.Else → Else_at (other (expr n) (pattern n)) [] (t ∷ b) b
+  line_else : (t : Token) (b : List Token) → sort t ≡ see.Newline → ahead b ≡ see.Else → Else_at (other exprs patterns) [] (t ∷ b) b
   unfolding other
   line_else t b i h = (t ∷ [], ap (λ (o : Ahead). by_wait waiting.Nothing o ([], t ∷ b)) i ∙ second_else (t ∷ []) b h)
 
-  lines_else : (t u : Token) (b : List Token) → sort t ≡ see.Newline → sort u ≡ see.Newline → ahead b ≡ see.Else → Else_at (other (expr n) (pattern n)) [] (t ∷ u ∷ b) b
+  lines_else : (t u : Token) (b : List Token) → sort t ≡ see.Newline → sort u ≡ see.Newline → ahead b ≡ see.Else → Else_at (other exprs patterns) [] (t ∷ u ∷ b) b
   unfolding other
   lines_else t u b i j h = (t ∷ u ∷ [], ap (λ (o : Ahead). by_wait waiting.Nothing o ([], t ∷ u ∷ b)) i ∙ second_lines t u b j h)
 
-  held_else : (t u : Token) (b : List Token) → sort t ≡ see.Newline → sort u ≡ see.Newline → ahead b ≡ see.Else → Else_at (other (expr n) (pattern n)) (t ∷ []) (u ∷ b) b
+  held_else : (t u : Token) (b : List Token) → sort t ≡ see.Newline → sort u ≡ see.Newline → ahead b ≡ see.Else → Else_at (other exprs patterns) (t ∷ []) (u ∷ b) b
   held_else t u b i j h = (t ∷ u ∷ [], waited t (u ∷ b) see.Newline i ∙ ap (λ (o : Ahead). by_wait waiting.Line o (t ∷ [], u ∷ b)) j ∙ third_else (t ∷ u ∷ []) b h)
 
-  at_tokens : (a m b : List Token) → a ≡ m → Else_at (other (expr n) (pattern n)) [] m b → Else_at (other (expr n) (pattern n)) [] a b
-  at_tokens a m b i k = (k.0, ap (λ (z : List Token). other (expr n) (pattern n) ([], z)) i ∙ k.1)
+  at_tokens : (a m b : List Token) → a ≡ m → Else_at (other exprs patterns) [] m b → Else_at (other exprs patterns) [] a b
+  at_tokens a m b i k = (k.0, ap (λ (z : List Token). other exprs patterns ([], z)) i ∙ k.1)
 
   -- one separator before it, and what of it is held
-  behind_one : (t : Token) (b : List Token) → ahead b ≡ see.Else → Else_at (other (expr n) (pattern n)) [] (t ∷ b) b → (d : Held) (a : List Token) → Pending d → d ++ a ≡ t ∷ b → Else_at (other (expr n) (pattern n)) d a b
+  behind_one : (t : Token) (b : List Token) → ahead b ≡ see.Else → Else_at (other exprs patterns) [] (t ∷ b) b → (d : Held) (a : List Token) → Pending d → d ++ a ≡ t ∷ b → Else_at (other exprs patterns) d a b
   behind_one t b h k d a none_held i = at_tokens a (t ∷ b) b i k
   behind_one t b h k d a (semi_held j) i = ahead_else d a b (ap rest i) h
   behind_one t b h k d a (line_held j) i = ahead_else d a b (ap rest i) h
   behind_one t b h k d a (lines_held {u = u} j l) i = clash (ahead b) see.Else see.Newline h (sym (ap (λ (z : List Token). ahead (rest z)) i) ∙ l) refl refl
 
-  else_found : (d : Held) (a m b : List Token) → Pending d → d ++ a ≡ m → IsSemi m b → ahead b ≡ see.Else → Else_at (other (expr n) (pattern n)) d a b
+  else_found : (d : Held) (a m b : List Token) → Pending d → d ++ a ≡ m → IsSemi m b → ahead b ≡ see.Else → Else_at (other exprs patterns) d a b
   else_found d a m b p i phrase.no_semi h = let c = cleared (same see.Else) refl refl d a b p i (ap (same see.Else) h) in ahead_else d a b c.1 h
   else_found d a m b p i (phrase.semicolon (phrase.token {t = t} j)) h = behind_one t b h (semi_else t b (word_ahead (phrase.token {t = t} {r = b} j)) h) d a p i
   else_found d a m b p i (phrase.one_line (phrase.token {t = t} j)) h = behind_one t b h (line_else t b (word_ahead (phrase.token {t = t} {r = b} j)) h) d a p i
   else_found d a m b none_held i (phrase.two_lines (phrase.token {t = t} j) (phrase.token {t = u} l)) h = at_tokens a (t ∷ u ∷ b) b i (lines_else t u b (word_ahead (phrase.token {t = t} {r = u ∷ b} j)) (word_ahead (phrase.token {t = u} {r = b} l)) h)
   else_found d a m b (semi_held k) i (phrase.two_lines (phrase.token {t = t} j) (phrase.token {t = u} l)) h = clash (sort t) see.Newline see.Semicolon (word_ahead (phrase.token {t = t} {r = u ∷ b} j)) (sym (ap ahead i) ∙ k) refl refl
   else_found d a m b (line_held {t = t2} k) i (phrase.two_lines (phrase.token {t = t} j) (phrase.token {t = u} l)) h =
-      let g = held_else t2 u b k (word_ahead (phrase.token {t = u} {r = b} l)) h in (g.0, ap (λ (z : List Token). other (expr n) (pattern n) (t2 ∷ [], z)) (ap rest i) ∙ g.1)
+      let g = held_else t2 u b k (word_ahead (phrase.token {t = u} {r = b} l)) h in (g.0, ap (λ (z : List Token). other exprs patterns (t2 ∷ [], z)) (ap rest i) ∙ g.1)
   else_found d a m b (lines_held k k2) i (phrase.two_lines (phrase.token {t = t} j) (phrase.token {t = u} l)) h = ahead_else d a b (ap (λ (z : List Token). rest (rest z)) i) h
 
-  module _ (reads : (x : Expr) (a r : List Token) → IsExpr n x a r → Reaches (expr n) [] a x r) where
-    reads_else : {s : Span} {x : Expr} {b c r : List Token} → IsWord see.Else s b c → IsExpr n x c r → Reaches (expect see.Else >> (expr n >>= λ x. pure (Some x))) [] b (Some x) r
+  module _ {E : Expr → List Token → List Token → Type 0} (reads : (x : Expr) (a r : List Token) → E x a r → Reaches exprs [] a x r) where
+    reads_else : {s : Span} {x : Expr} {b c r : List Token} → IsWord see.Else s b c → E x c r → Reaches (expect see.Else >> (exprs >>= λ x. pure (Some x))) [] b (Some x) r
     reads_else w h = upon _ (marked see.Else w) (map _ (reads _ _ _ h))
 
-    else_reached : {s : Span} {x : Expr} {b c r : List Token} (d e : Held) (a : List Token) → other (expr n) (pattern n) (d, a) ≡ with_else (expr n) (pattern n) (e, b) → IsWord see.Else s b c → IsExpr n x c r → Reaches (other (expr n) (pattern n)) d a (Some x) r
+    else_reached : {s : Span} {x : Expr} {b c r : List Token} (d e : Held) (a : List Token) → other exprs patterns (d, a) ≡ with_else exprs patterns (e, b) → IsWord see.Else s b c → E x c r → Reaches (other exprs patterns) d a (Some x) r
     unfolding with_else absorb
     else_reached d e a i w h = let g = reads_else w h in record { held = g.held; left = g.left; pending = g.pending; whole = g.whole; reads = i ∙ g.reads }
 
-    pub reads_other : {y : Option Expr} {m r : List Token} → IsOther (IsExpr n) (IsPattern n) y m r → From (other (expr n) (pattern n)) m y r
+    pub reads_other : {Q : Pattern → List Token → List Token → Type 0} {y : Option Expr} {m r : List Token} → IsOther E Q y m r → From (other exprs patterns) m y r
     reads_other (grammar.no_else {r = r} h) = record { from = λ d a k i. let g = other_none d a k (ap else_follows i ∙ h) in record { held = g.0; left = g.1; pending = g.2; whole = g.3 ∙ i; reads = g.4 } }
     reads_other (grammar.an_else {a = m} {b = b} s w h) = record { from = λ d a k i. let g = else_found d a m b k i s (word_ahead w) in else_reached d g.0 a g.1 w h }

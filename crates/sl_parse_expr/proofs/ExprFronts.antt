@@ -106,7 +106,7 @@ module _ (E : Expr → List Token → List Token → Type 0) (Q : Pattern → Li
   pub front_infix : {x : Infix} {a r : List Token} → IsInfix E Q x a r → begins_operand (ahead a) ≡ true
   front_infix (grammar.«infix» h k) = front_prefix h
 
-  front_any : {x : Expr} {a r : List Token} → IsAnyExpr E Q x a r → begins_expr (ahead a) ≡ true
+  pub front_any : {x : Expr} {a r : List Token} → IsAnyExpr E Q x a r → begins_expr (ahead a) ≡ true
   front_any (grammar.«if» w c h y) = front begins_expr see.If true refl w
   front_any (grammar.while w c h) = front begins_expr see.While true refl w
   front_any (grammar.try w h c f) = front begins_expr see.Try true refl w

@@ -110,6 +110,19 @@ pub good_behind_item : (n : ℕ) (bare : Bool) → Good brace [] n (λ _. behind
 good_behind_item n true = good_behind_new n
 good_behind_item n false = good_absorb brace n
 
+-- ---- where loops end
+
+pub item_none : (s : Bool × List Stat) → at_item begins_stat s see.End ≡ false
+item_none s = both_false s.0
+
+pub suffix_none : (s : Chain × List Suffix) → at_suffix s see.End ≡ false
+suffix_none s = go s.0
+  where
+    go : (c : Chain) → goes_chain c see.End ≡ false
+    go chain.All = refl
+    go chain.Selections = refl
+    go chain.Over = refl
+
 -- ---- the rules, over families of readers of the expressions and patterns inside
 
 module _ (n : ℕ) (a : ℕ → Reader Expr) (b : ℕ → Reader Pattern) (good : Good closers lit n a) (good_pattern : Good arrows under n b) where
@@ -170,9 +183,6 @@ module _ (n : ℕ) (a : ℕ → Reader Expr) (b : ℕ → Reader Pattern) (good 
   pub good_block_item : Good brace (semi ∷ []) n (λ m. block_item (a m) (b m))
   unfolding block_item sort
   good_block_item = pick separates good_apart good_stat_item refl refl refl
-
-  pub item_none : (s : Bool × List Stat) → at_item begins_stat s see.End ≡ false
-  item_none s = both_false s.0
 
   item_over : (s : Bool × List Stat) (o : Ahead) → brace o ≡ true → at_item begins_stat s o ≡ false
   item_over s = at_brace (λ o. at_item begins_stat s o ≡ false) (both_false s.0)
@@ -283,14 +293,6 @@ module _ (n : ℕ) (a : ℕ → Reader Expr) (b : ℕ → Reader Pattern) (good 
   pub good_suffix : Good closers (dot ∷ t_name ∷ []) n (λ m. suffix (a m) (b m))
   unfolding suffix sort
   good_suffix = pick (same see.Dot) good_selection (pick (same see.OpenParen) good_call (pick (same see.OpenBrace) good_block_call good_line_call refl refl refl) refl refl refl) refl refl refl
-
-  pub suffix_none : (s : Chain × List Suffix) → at_suffix s see.End ≡ false
-  suffix_none s = go s.0
-    where
-      go : (c : Chain) → goes_chain c see.End ≡ false
-      go chain.All = refl
-      go chain.Selections = refl
-      go chain.Over = refl
 
   suffix_over : (s : Chain × List Suffix) (o : Ahead) → closers o ≡ true → at_suffix s o ≡ false
   suffix_over s o h = go s.0

@@ -15,10 +15,11 @@ pub mod PatternBegun
 pub mod Level
 pub mod Loops
 pub mod Gives
+pub mod Reaches
+pub mod Inside
 pub mod PatternSound
 pub mod Sound
 pub mod Fronts
-pub mod Reaches
 pub mod Complete
 pub mod PatternComplete
 pub mod ExprFronts
@@ -27,3 +28,6 @@ pub mod ElseComplete
 pub mod SimpleComplete
 pub mod ExprComplete
 pub mod OneTree
+pub mod Tied
+pub mod PatternTied
+pub mod ExprTied

@@ -31,11 +31,12 @@ use Rattle.sl_parse_expr.specs.Phrases as phrase
 use Rattle.sl_parse_expr.specs.Grammar.{IsTyped, IsPattern, IsParArgs, IsStat, IsBlock, IsBraces, IsHead, IsSuffixes, IsSimple, IsPrefix, IsOperations, IsInfix, IsGuard, IsCase, IsMoreCases, IsCases, IsHandler, IsFinalizer, IsOther, IsCondition, IsAnyExpr, IsExpr, suffix_follows, else_follows}
 use Rattle.sl_parse_expr.specs.Grammar as grammar
 use Rattle.sl_parse_expr.proofs.Theory.{Held, stop}
-use Rattle.sl_parse_expr.proofs.Level.{level, pattern_level}
-use Rattle.sl_parse_expr.proofs.Good.{newline, good_next_arg, good_block_item, item_none, good_suffix, suffix_none, good_operation, good_case}
+use Rattle.sl_parse_expr.proofs.Good.{newline, item_none, suffix_none}
 use Rattle.sl_parse_expr.proofs.Loops.{Eats, eats_of}
 use Rattle.sl_parse_expr.proofs.Gives.{Gives, Clean, Loose, give, stopped, same_as, weaker, looser, as_loose, next, upon, map_clean, map_loose, single, marked, either, both, branch_by, holding, looked, absorbed, settled, perhaps, perhaps_clean, loop, listing, IsNext, behind, one_behind}
-use Rattle.sl_parse_expr.proofs.PatternSound.{name_is, literal_is, type_is, pattern_is}
+use Rattle.sl_parse_expr.proofs.Inside.{SoundExprs, expr_items}
+use Rattle.sl_parse_expr.proofs.PatternSound.{name_is, literal_is, type_is, sound_patterns}
+use Rattle.sl_ast.specs.declared.pattern.Pattern.{Pattern}
 
 -- ---- single tokens and line ends
 
@@ -81,50 +82,47 @@ line_word t s i = when_some (same see.Newline (sort t)) t.span s i
 
 -- ---- the rules, over the expressions inside
 
-module _ (n : ℕ) (sound : (d : Held) (a : List Token) → Gives (expr n) d a (Loose (λ x r. IsExpr n x (d ++ a) r))) where
-  next_arg_is : (d : Held) (a : List Token) → Gives (next_arg (expr n) (pattern n)) d a (Loose (λ x r. IsNext see.Comma (IsExpr n) x (d ++ a) r))
+module _ {exprs : Reader Expr} {patterns : Reader Pattern} {E : Expr → List Token → List Token → Type 0} {Q : Pattern → List Token → List Token → Type 0} (ok : SoundExprs exprs patterns E Q) where
+  next_arg_is : (d : Held) (a : List Token) → Gives (next_arg exprs patterns) d a (Loose (λ x r. IsNext see.Comma E x (d ++ a) r))
   unfolding next_arg
-  next_arg_is d a = upon (marked see.Comma d a) (λ s b h. as_loose (sound [] b) (λ x r k. behind h k))
+  next_arg_is d a = upon (marked see.Comma d a) (λ s b h. as_loose (ok.is [] b) (λ x r k. behind h k))
 
-  next_arg_eats : Eats (next_arg (expr n) (pattern n))
-  next_arg_eats = eats_of n (good_next_arg n expr pattern (level n) (pattern_level n)) refl
-
-  some_args_is : (d : Held) (a : List Token) → Gives (some_args (expr n) (pattern n)) d a (Clean (λ xs r. IsListed (IsExpr n) xs.0 xs.1 (d ++ a) r))
+  some_args_is : (d : Held) (a : List Token) → Gives (some_args exprs patterns) d a (Clean (λ xs r. IsListed E xs.0 xs.1 (d ++ a) r))
   unfolding some_args more_args
-  some_args_is d a = next (sound d a) (λ x e b h. next (listing (same see.Comma) (next_arg (expr n) (pattern n)) refl refl refl next_arg_eats (IsNext see.Comma (IsExpr n)) (IsMore see.Comma (IsExpr n))
-      (λ ys c. (s : Span) (r : List Token) → IsWord see.CloseParen s c r → IsListed (IsExpr n) ys s (d ++ a) r) (λ r m. phrase.no_more m) (one_behind see.Comma (IsExpr n)) next_arg_is (x ∷ []) e b (h.held, λ zs c m s r w. phrase.some_listed h.is m w))
+  some_args_is d a = next (ok.is d a) (λ x e b h. next (listing (same see.Comma) (next_arg exprs patterns) refl refl refl ok.items.arg (IsNext see.Comma E) (IsMore see.Comma E)
+      (λ ys c. (s : Span) (r : List Token) → IsWord see.CloseParen s c r → IsListed E ys s (d ++ a) r) (λ r m. phrase.no_more m) (one_behind see.Comma E) next_arg_is (x ∷ []) e b (h.held, λ zs c m s r w. phrase.some_listed h.is m w))
       (λ ys e2 c k. map_clean _ (marked see.CloseParen e2 c) (λ s r w. k.is s r w)))
 
-  no_args_is : (d : Held) (a : List Token) → Gives (no_args (expr n) (pattern n)) d a (Clean (λ xs r. IsListed (IsExpr n) xs.0 xs.1 (d ++ a) r))
+  no_args_is : (d : Held) (a : List Token) → Gives (no_args exprs patterns) d a (Clean (λ xs r. IsListed E xs.0 xs.1 (d ++ a) r))
   unfolding no_args
   no_args_is d a = map_clean _ (marked see.CloseParen d a) (λ s r w. phrase.none_listed w)
 
-  par_args_is : (d : Held) (a : List Token) → Gives (par_args (expr n) (pattern n)) d a (Clean (λ x r. IsParArgs (IsExpr n) (IsPattern n) x (d ++ a) r))
+  par_args_is : (d : Held) (a : List Token) → Gives (par_args exprs patterns) d a (Clean (λ x r. IsParArgs E Q x (d ++ a) r))
   unfolding par_args
   par_args_is d a = upon (marked see.OpenParen d a) (λ s b h. map_clean _ (both (same see.CloseParen) (no_args_is [] b) (some_args_is [] b)) (λ xs r k. grammar.par_args h k))
 
   -- ---- statements
 
-  typed_is : (d : Held) (a : List Token) → Gives (typed (expr n) (pattern n)) d a (Clean (λ t r. IsOption (same see.Colon) IsTyped t (d ++ a) r))
+  typed_is : (d : Held) (a : List Token) → Gives (typed exprs patterns) d a (Clean (λ t r. IsOption (same see.Colon) IsTyped t (d ++ a) r))
   unfolding typed
   typed_is d a = upon (marked see.Colon d a) (λ s b h. map_clean _ (type_is [] b) (λ t r k. phrase.present (grammar.typed h k)))
 
-  local_is : (d : Held) (a : List Token) → Gives (local (expr n) (pattern n)) d a (Loose (λ x r. IsStat (IsExpr n) (IsPattern n) x (d ++ a) r))
+  local_is : (d : Held) (a : List Token) → Gives (local exprs patterns) d a (Loose (λ x r. IsStat E Q x (d ++ a) r))
   unfolding local
-  local_is d a = upon (binding_is d a) (λ g b h. upon (name_is [] b) (λ x c i. upon (perhaps_clean (same see.Colon) None (typed_is [] c) (λ k. phrase.absent k)) (λ t c1 j. upon (marked see.Equals [] c1) (λ s c2 k. map_loose _ (sound [] c2) (λ e r m. grammar.local h i j k m)))))
+  local_is d a = upon (binding_is d a) (λ g b h. upon (name_is [] b) (λ x c i. upon (perhaps_clean (same see.Colon) None (typed_is [] c) (λ k. phrase.absent k)) (λ t c1 j. upon (marked see.Equals [] c1) (λ s c2 k. map_loose _ (ok.is [] c2) (λ e r m. grammar.local h i j k m)))))
 
-  expr_as_stat_is : (d : Held) (a : List Token) → Gives (expr_as_stat (expr n) (pattern n)) d a (Loose (λ x r. IsStat (IsExpr n) (IsPattern n) x (d ++ a) r))
+  expr_as_stat_is : (d : Held) (a : List Token) → Gives (expr_as_stat exprs patterns) d a (Loose (λ x r. IsStat E Q x (d ++ a) r))
   unfolding expr_as_stat
-  expr_as_stat_is d a = map_loose _ (sound d a) (λ e r k. grammar.expression k)
+  expr_as_stat_is d a = map_loose _ (ok.is d a) (λ e r k. grammar.expression k)
 
-  stat_is : (d : Held) (a : List Token) → Gives (stat (expr n) (pattern n)) d a (Loose (λ x r. IsStat (IsExpr n) (IsPattern n) x (d ++ a) r))
+  stat_is : (d : Held) (a : List Token) → Gives (stat exprs patterns) d a (Loose (λ x r. IsStat E Q x (d ++ a) r))
   unfolding stat
   stat_is d a = both begins_binding (local_is d a) (expr_as_stat_is d a)
 
   -- ---- what stands behind a statement
 
   abbrev Stats : Bool → List Stat → List Token → List Token → Type 0
-  Stats = IsSeq begins_stat stat_ends_in_new (IsStat (IsExpr n) (IsPattern n))
+  Stats = IsSeq begins_stat stat_ends_in_new (IsStat E Q)
 
   -- whether a separator stands before what follows
   abbrev parted : Bool → Bool
@@ -186,7 +184,7 @@ module _ (n : ℕ) (sound : (d : Held) (a : List Token) → Gives (expr n) d a (
   abbrev ItemIs : List Token → Option (Stat × Bool) → Held → List Token → Type 0
   ItemIs a y e r = (e ≡ []) × ((b : Bool) (zs : List Stat) (q : List Token) → (separates (ahead a) || (b && begins_stat (ahead a))) ≡ true → Stats (parted_by y) zs r q → Stats b (found y ++ zs) a q)
 
-  apart_is : (a : List Token) → Gives (apart (expr n) (pattern n)) [] a (ItemIs a)
+  apart_is : (a : List Token) → Gives (apart exprs patterns) [] a (ItemIs a)
   unfolding apart
   apart_is a = upon (separator_is [] a) (λ u b h. give None (refl, λ v zs q k m. phrase.separated h m))
 
@@ -195,16 +193,13 @@ module _ (n : ℕ) (sound : (d : Held) (a : List Token) → Gives (expr n) d a (
   must_part false true o i k = refl
   must_part false false o i k = absurd cc
 
-  stat_item_is : (a : List Token) → separates (ahead a) ≡ false → Gives (stat_item (expr n) (pattern n)) [] a (ItemIs a)
+  stat_item_is : (a : List Token) → separates (ahead a) ≡ false → Gives (stat_item exprs patterns) [] a (ItemIs a)
   unfolding stat_item
   stat_item_is a free = next (stat_is [] a) (λ x e b h. next (behind_item_is (stat_ends_in_new x) e b h.held) (λ c e2 r k. give (Some (x, c)) (k.0, λ v zs q g m. subst (λ (z : Bool). Stats z (x ∷ zs) a q) (sym (must_part (separates (ahead a)) v (begins_stat (ahead a)) free g)) (phrase.item h.is k.1 (k.2 zs q m)))))
 
-  block_item_is : (a : List Token) → Gives (block_item (expr n) (pattern n)) [] a (ItemIs a)
+  block_item_is : (a : List Token) → Gives (block_item exprs patterns) [] a (ItemIs a)
   unfolding block_item
   block_item_is a = either (λ e o. separates o) (λ _. apart_is a) (λ h. stat_item_is a h)
-
-  block_item_eats : Eats (block_item (expr n) (pattern n))
-  block_item_eats = eats_of n (good_block_item n expr pattern (level n) (pattern_level n)) refl
 
   module _ (m : List Token) where
     abbrev StatsSo : Bool × List Stat → Held → List Token → Type 0
@@ -215,7 +210,7 @@ module _ (n : ℕ) (sound : (d : Held) (a : List Token) → Gives (expr n) d a (
     stats_add b xs a inv g (Some (x, true)) e r k = (k.0, λ zs q i. subst (λ (z : List Stat). Stats true z m q) (sym (append_assoc xs (x ∷ []) zs)) (inv.1 (x ∷ zs) q (k.1 b zs q g i)))
     stats_add b xs a inv g (Some (x, false)) e r k = (k.0, λ zs q i. subst (λ (z : List Stat). Stats true z m q) (sym (append_assoc xs (x ∷ []) zs)) (inv.1 (x ∷ zs) q (k.1 b zs q g i)))
 
-    stats_step : (w : Bool × List Stat) (d : Held) (a : List Token) → StatsSo w d a → clean (at_item begins_stat) w (ahead a) d ≡ true → Gives (block_item (expr n) (pattern n)) d a (λ y e r. StatsSo (add_item w y) e r)
+    stats_step : (w : Bool × List Stat) (d : Held) (a : List Token) → StatsSo w d a → clean (at_item begins_stat) w (ahead a) d ≡ true → Gives (block_item exprs patterns) d a (λ y e r. StatsSo (add_item w y) e r)
     stats_step w [] a inv h = weaker (block_item_is a) (λ y e r k. stats_add w.0 w.1 a inv h y e r k)
     stats_step w (t ∷ d) a inv h = absurd cc
 
@@ -223,77 +218,77 @@ module _ (n : ℕ) (sound : (d : Held) (a : List Token) → Gives (expr n) d a (
     stats_done w [] a inv h = record { none = refl; is = subst (λ (z : List Stat). Stats true z m a) (append-nil w.1) (inv.1 [] a (phrase.ended h)) }
     stats_done w (t ∷ d) a inv h = absurd (let i = inv.0 in cc)
 
-  stats_is : (a : List Token) → Gives (stats (expr n) (pattern n)) [] a (Clean (λ w r. Stats true w.1 a r))
+  stats_is : (a : List Token) → Gives (stats exprs patterns) [] a (Clean (λ w r. Stats true w.1 a r))
   unfolding stats
-  stats_is a = loop (at_item begins_stat) (block_item (expr n) (pattern n)) add_item (item_none n expr pattern (level n) (pattern_level n)) block_item_eats (StatsSo a) (Clean (λ w r. Stats true w.1 a r)) (stats_step a) (stats_done a) (true, []) [] a (refl, λ zs q k. k)
+  stats_is a = loop (at_item begins_stat) (block_item exprs patterns) add_item item_none ok.items.item (StatsSo a) (Clean (λ w r. Stats true w.1 a r)) (stats_step a) (stats_done a) (true, []) [] a (refl, λ zs q k. k)
 
-  block_is : (a : List Token) → Gives (block (expr n) (pattern n)) [] a (Clean (λ x r. IsBlock (IsExpr n) (IsPattern n) x a r))
+  block_is : (a : List Token) → Gives (block exprs patterns) [] a (Clean (λ x r. IsBlock E Q x a r))
   unfolding block
   block_is a = absorbed (map_clean _ (stats_is a) (λ w r k. grammar.block k))
 
-  braces_is : (d : Held) (a : List Token) → Gives (braces (expr n) (pattern n)) d a (Clean (λ x r. IsBraces (IsExpr n) (IsPattern n) x.0 x.1 (d ++ a) r))
+  braces_is : (d : Held) (a : List Token) → Gives (braces exprs patterns) d a (Clean (λ x r. IsBraces E Q x.0 x.1 (d ++ a) r))
   unfolding braces
   braces_is d a = upon (marked see.OpenBrace d a) (λ s b h. upon (block_is b) (λ x c k. map_clean _ (marked see.CloseBrace [] c) (λ t r w. grammar.braces h k w)))
 
   -- ---- simple expressions
 
-  literal_start_is : (d : Held) (a : List Token) → Gives (literal_start (expr n) (pattern n)) d a (Clean (λ x r. IsHead (IsExpr n) (IsPattern n) x.0 x.1 (d ++ a) r))
+  literal_start_is : (d : Held) (a : List Token) → Gives (literal_start exprs patterns) d a (Clean (λ x r. IsHead E Q x.0 x.1 (d ++ a) r))
   unfolding literal_start
   literal_start_is d a = map_clean _ (literal_is d a) (λ x r k. grammar.by_literal k)
 
-  name_start_is : (d : Held) (a : List Token) → Gives (name_start (expr n) (pattern n)) d a (Clean (λ x r. IsHead (IsExpr n) (IsPattern n) x.0 x.1 (d ++ a) r))
+  name_start_is : (d : Held) (a : List Token) → Gives (name_start exprs patterns) d a (Clean (λ x r. IsHead E Q x.0 x.1 (d ++ a) r))
   unfolding name_start
   name_start_is d a = map_clean _ (name_is d a) (λ x r k. grammar.by_name k)
 
-  this_start_is : (d : Held) (a : List Token) → Gives (this_start (expr n) (pattern n)) d a (Clean (λ x r. IsHead (IsExpr n) (IsPattern n) x.0 x.1 (d ++ a) r))
+  this_start_is : (d : Held) (a : List Token) → Gives (this_start exprs patterns) d a (Clean (λ x r. IsHead E Q x.0 x.1 (d ++ a) r))
   unfolding this_start
   this_start_is d a = map_clean _ (marked see.This d a) (λ s r w. grammar.this w)
 
-  super_start_is : (d : Held) (a : List Token) → Gives (super_start (expr n) (pattern n)) d a (Clean (λ x r. IsHead (IsExpr n) (IsPattern n) x.0 x.1 (d ++ a) r))
+  super_start_is : (d : Held) (a : List Token) → Gives (super_start exprs patterns) d a (Clean (λ x r. IsHead E Q x.0 x.1 (d ++ a) r))
   unfolding super_start
   super_start_is d a = upon (marked see.Super d a) (λ s b h. upon (marked see.Dot [] b) (λ t c i. map_clean _ (name_is [] c) (λ x r k. grammar.«super» h i k)))
 
-  new_args_is : (d : Held) (a : List Token) → Gives (new_args (expr n) (pattern n)) d a (Clean (λ p r. IsOption (same see.OpenParen) (IsParArgs (IsExpr n) (IsPattern n)) p (d ++ a) r))
+  new_args_is : (d : Held) (a : List Token) → Gives (new_args exprs patterns) d a (Clean (λ p r. IsOption (same see.OpenParen) (IsParArgs E Q) p (d ++ a) r))
   unfolding new_args
   new_args_is d a = map_clean _ (par_args_is d a) (λ x r k. phrase.present k)
 
-  new_start_is : (d : Held) (a : List Token) → Gives (new_start (expr n) (pattern n)) d a (Clean (λ x r. IsHead (IsExpr n) (IsPattern n) x.0 x.1 (d ++ a) r))
+  new_start_is : (d : Held) (a : List Token) → Gives (new_start exprs patterns) d a (Clean (λ x r. IsHead E Q x.0 x.1 (d ++ a) r))
   unfolding new_start
   new_start_is d a = upon (marked see.New d a) (λ s b h. upon (name_is [] b) (λ x c i. map_clean _ (perhaps_clean (same see.OpenParen) None (new_args_is [] c) (λ k. phrase.absent k)) (λ p r k. grammar.new h i k)))
 
-  nothing_inside_is : (d : Held) (a : List Token) (R : Option Expr × Span → List Token → Type 0) → ((t : Span) (r : List Token) → IsWord see.CloseParen t (d ++ a) r → R (None, t) r) → Gives (nothing_inside (expr n) (pattern n)) d a (Clean R)
+  nothing_inside_is : (d : Held) (a : List Token) (R : Option Expr × Span → List Token → Type 0) → ((t : Span) (r : List Token) → IsWord see.CloseParen t (d ++ a) r → R (None, t) r) → Gives (nothing_inside exprs patterns) d a (Clean R)
   unfolding nothing_inside
   nothing_inside_is d a R f = map_clean _ (marked see.CloseParen d a) f
 
-  expr_inside_is : (d : Held) (a : List Token) (R : Option Expr × Span → List Token → Type 0) → ((x : Expr) (t : Span) (c r : List Token) → IsExpr n x (d ++ a) c → IsWord see.CloseParen t c r → R (Some x, t) r) → Gives (expr_inside (expr n) (pattern n)) d a (Clean R)
+  expr_inside_is : (d : Held) (a : List Token) (R : Option Expr × Span → List Token → Type 0) → ((x : Expr) (t : Span) (c r : List Token) → E x (d ++ a) c → IsWord see.CloseParen t c r → R (Some x, t) r) → Gives (expr_inside exprs patterns) d a (Clean R)
   unfolding expr_inside
-  expr_inside_is d a R f = next (sound d a) (λ x e c k. map_clean _ (marked see.CloseParen e c) (λ t r w. f x t (e ++ c) r k.is w))
+  expr_inside_is d a R f = next (ok.is d a) (λ x e c k. map_clean _ (marked see.CloseParen e c) (λ t r w. f x t (e ++ c) r k.is w))
 
-  parens_start_is : (d : Held) (a : List Token) → Gives (parens_start (expr n) (pattern n)) d a (Clean (λ x r. IsHead (IsExpr n) (IsPattern n) x.0 x.1 (d ++ a) r))
+  parens_start_is : (d : Held) (a : List Token) → Gives (parens_start exprs patterns) d a (Clean (λ x r. IsHead E Q x.0 x.1 (d ++ a) r))
   unfolding parens_start
   parens_start_is d a = upon (marked see.OpenParen d a) (λ s b h. map_clean _ (both (same see.CloseParen)
-      (nothing_inside_is [] b (λ x r. IsHead (IsExpr n) (IsPattern n) (parens_tree s x.0 x.1) true (d ++ a) r) (λ t r w. grammar.unit h w))
-      (expr_inside_is [] b (λ x r. IsHead (IsExpr n) (IsPattern n) (parens_tree s x.0 x.1) true (d ++ a) r) (λ x t c r k w. grammar.parens h k w))) (λ x r k. k))
+      (nothing_inside_is [] b (λ x r. IsHead E Q (parens_tree s x.0 x.1) true (d ++ a) r) (λ t r w. grammar.unit h w))
+      (expr_inside_is [] b (λ x r. IsHead E Q (parens_tree s x.0 x.1) true (d ++ a) r) (λ x t c r k w. grammar.parens h k w))) (λ x r k. k))
 
-  block_start_is : (d : Held) (a : List Token) → Gives (block_start (expr n) (pattern n)) d a (Clean (λ x r. IsHead (IsExpr n) (IsPattern n) x.0 x.1 (d ++ a) r))
+  block_start_is : (d : Held) (a : List Token) → Gives (block_start exprs patterns) d a (Clean (λ x r. IsHead E Q x.0 x.1 (d ++ a) r))
   unfolding block_start
   block_start_is d a = map_clean _ (braces_is d a) (λ x r k. grammar.by_block k)
 
-  start_is : (d : Held) (a : List Token) → Gives (start (expr n) (pattern n)) d a (Clean (λ x r. IsHead (IsExpr n) (IsPattern n) x.0 x.1 (d ++ a) r))
+  start_is : (d : Held) (a : List Token) → Gives (start exprs patterns) d a (Clean (λ x r. IsHead E Q x.0 x.1 (d ++ a) r))
   unfolding start
   start_is d a = both (same see.Literal) (literal_start_is d a) (both (same see.Id) (name_start_is d a) (both (same see.This) (this_start_is d a) (both (same see.Super) (super_start_is d a) (both (same see.New) (new_start_is d a) (both (same see.OpenParen) (parens_start_is d a) (block_start_is d a))))))
 
   -- ---- suffixes
 
   abbrev Suffixes : Bool → List Suffix → List Token → List Token → Type 0
-  Suffixes = IsSuffixes (IsExpr n) (IsPattern n)
+  Suffixes = IsSuffixes E Q
 
   -- a suffix stands where the chain goes on; without one what follows begins none
   abbrev SuffixIs : List Token → Option Suffix → Held → List Token → Type 0
   SuffixIs a None e r = Pending e × (e ++ r ≡ a) × ((all : Bool) → goes_chain (first_chain all) (ahead a) ≡ true → suffix_follows all a ≡ false)
   SuffixIs a (Some x) e r = (e ≡ []) × ((all : Bool) → goes_chain (first_chain all) (ahead a) ≡ true → (xs : List Suffix) (q : List Token) → Suffixes true xs r q → Suffixes all (x ∷ xs) a q)
 
-  selection_is : (a : List Token) → Gives (selection (expr n) (pattern n)) [] a (SuffixIs a)
+  selection_is : (a : List Token) → Gives (selection exprs patterns) [] a (SuffixIs a)
   unfolding selection
   selection_is a = upon (marked see.Dot [] a) (λ s b h. next (name_is [] b) (λ x e r k. give (Some (select x)) (k.none, λ all g xs q m. grammar.selection h k.is m)))
 
@@ -302,11 +297,11 @@ module _ (n : ℕ) (sound : (d : Held) (a : List Token) → Gives (expr n) d a (
   all_may true o i k = refl
   all_may false o i k = absurd (let j : false ≡ true = sym i ∙ k in cc)
 
-  call_is : (a : List Token) → same see.Dot (ahead a) ≡ false → Gives (call (expr n) (pattern n)) [] a (SuffixIs a)
+  call_is : (a : List Token) → same see.Dot (ahead a) ≡ false → Gives (call exprs patterns) [] a (SuffixIs a)
   unfolding call
   call_is a free = next (par_args_is [] a) (λ x e r k. give (Some (apply x)) (k.none, λ all g xs q m. subst (λ (z : Bool). Suffixes z (apply x ∷ xs) a q) (sym (all_may all (ahead a) free g)) (grammar.call k.is m)))
 
-  block_call_is : (a : List Token) → same see.Dot (ahead a) ≡ false → (d : Held) (b : List Token) → IsLine a (d ++ b) → Gives (block_call (expr n) (pattern n)) d b (SuffixIs a)
+  block_call_is : (a : List Token) → same see.Dot (ahead a) ≡ false → (d : Held) (b : List Token) → IsLine a (d ++ b) → Gives (block_call exprs patterns) d b (SuffixIs a)
   unfolding block_call
   block_call_is a free d b line = next (braces_is d b) (λ x e r k. give (Some (apply_block x.0 x.1)) (k.none, λ all g xs q m. subst (λ (z : Bool). Suffixes z (apply_block x.0 x.1 ∷ xs) a q) (sym (all_may all (ahead a) free g)) (grammar.block_call line k.is m)))
 
@@ -317,7 +312,7 @@ module _ (n : ℕ) (sound : (d : Held) (a : List Token) → Gives (expr n) d a (
       by see.Newline h = refl
       by o h = absurd cc
 
-  behind_line_is : (t : Token) (b : List Token) → sort t ≡ see.Newline → Gives (behind_line (expr n) (pattern n)) (t ∷ []) b (SuffixIs (t ∷ b))
+  behind_line_is : (t : Token) (b : List Token) → sort t ≡ see.Newline → Gives (behind_line exprs patterns) (t ∷ []) b (SuffixIs (t ∷ b))
   unfolding behind_line
   behind_line_is t b i = either (λ e o. same see.OpenBrace o)
       (λ h. absorbed (block_call_is (t ∷ b) (ap (λ (o : Ahead). same see.Dot o) i) [] b (phrase.one_nl {s = t.span} (phrase.token (rw i refl)))))
@@ -327,17 +322,14 @@ module _ (n : ℕ) (sound : (d : Held) (a : List Token) → Gives (expr n) d a (
       none true h = rw i (rw h refl)
       none false h = rw i refl
 
-  line_call_is : (a : List Token) → same see.Dot (ahead a) ≡ false → Gives (line_call (expr n) (pattern n)) [] a (SuffixIs a)
+  line_call_is : (a : List Token) → same see.Dot (ahead a) ≡ false → Gives (line_call exprs patterns) [] a (SuffixIs a)
   unfolding line_call
   line_call_is [] free = stopped (stop false []) refl
-  line_call_is (t ∷ b) free = looked (λ o _. if same see.Newline o then hold (behind_line (expr n) (pattern n)) else stuck) (branch_by (same see.Newline (sort t)) (λ h. holding (behind_line_is t b (line_token t h))) (λ h. stopped (stop false (t ∷ b)) refl))
+  line_call_is (t ∷ b) free = looked (λ o _. if same see.Newline o then hold (behind_line exprs patterns) else stuck) (branch_by (same see.Newline (sort t)) (λ h. holding (behind_line_is t b (line_token t h))) (λ h. stopped (stop false (t ∷ b)) refl))
 
-  suffix_is : (a : List Token) → Gives (suffix (expr n) (pattern n)) [] a (SuffixIs a)
+  suffix_is : (a : List Token) → Gives (suffix exprs patterns) [] a (SuffixIs a)
   unfolding suffix
   suffix_is a = either (λ e o. same see.Dot o) (λ _. selection_is a) (λ free. both (same see.OpenParen) (call_is a free) (both (same see.OpenBrace) (block_call_is a free [] a phrase.no_nl) (line_call_is a free)))
-
-  suffix_eats : Eats (suffix (expr n) (pattern n))
-  suffix_eats = eats_of n (good_suffix n expr pattern (level n) (pattern_level n)) refl
 
   module _ (whole : Bool) (m : List Token) where
     abbrev SuffixesSo : Chain × List Suffix → Held → List Token → Type 0
@@ -350,7 +342,7 @@ module _ (n : ℕ) (sound : (d : Held) (a : List Token) → Gives (expr n) d a (
     suffixes_add all xs a inv g (Some x) e r k = (k.0, λ zs q i. subst (λ (z : List Suffix). Suffixes whole z m q) (sym (append_assoc xs (x ∷ []) zs)) (inv (x ∷ zs) q (k.1 all g zs q i)))
     suffixes_add all xs a inv g None e r k = (k.0, subst (λ (z : List Token). Suffixes whole xs m z) (sym k.1) (subst (λ (z : List Suffix). Suffixes whole z m a) (append-nil xs) (inv [] a (grammar.no_suffix (k.2 all g)))))
 
-    suffixes_step : (w : Chain × List Suffix) (d : Held) (a : List Token) → SuffixesSo w d a → clean at_suffix w (ahead a) d ≡ true → Gives (suffix (expr n) (pattern n)) d a (λ y e r. SuffixesSo (add_suffix w y) e r)
+    suffixes_step : (w : Chain × List Suffix) (d : Held) (a : List Token) → SuffixesSo w d a → clean at_suffix w (ahead a) d ≡ true → Gives (suffix exprs patterns) d a (λ y e r. SuffixesSo (add_suffix w y) e r)
     suffixes_step (chain.All, xs) [] a inv h = weaker (suffix_is a) (λ y e r k. suffixes_add true xs a inv.1 h y e r k)
     suffixes_step (chain.Selections, xs) [] a inv h = weaker (suffix_is a) (λ y e r k. suffixes_add false xs a inv.1 h y e r k)
     suffixes_step (chain.Over, xs) [] a inv h = absurd cc
@@ -374,36 +366,36 @@ module _ (n : ℕ) (sound : (d : Held) (a : List Token) → Gives (expr n) d a (
     suffixes_done (chain.All, xs) (t ∷ d) a inv h = absurd (let i = inv.0 in cc)
     suffixes_done (chain.Selections, xs) (t ∷ d) a inv h = absurd (let i = inv.0 in cc)
 
-  suffixes_is : (all : Bool) (a : List Token) → Gives (suffixes (expr n) (pattern n) all) [] a (Loose (λ w r. Suffixes all w.1 a r))
+  suffixes_is : (all : Bool) (a : List Token) → Gives (suffixes exprs patterns all) [] a (Loose (λ w r. Suffixes all w.1 a r))
   unfolding suffixes
-  suffixes_is all a = loop at_suffix (suffix (expr n) (pattern n)) add_suffix (suffix_none n expr pattern (level n) (pattern_level n)) suffix_eats (SuffixesSo all a) (Loose (λ w r. Suffixes all w.1 a r)) (suffixes_step all a) (suffixes_done all a) (first_chain all, []) [] a (begin all)
+  suffixes_is all a = loop at_suffix (suffix exprs patterns) add_suffix suffix_none ok.items.suffixed (SuffixesSo all a) (Loose (λ w r. Suffixes all w.1 a r)) (suffixes_step all a) (suffixes_done all a) (first_chain all, []) [] a (begin all)
     where
       begin : (all : Bool) → SuffixesSo all a (first_chain all, []) [] a
       begin true = (refl, λ zs q k. k)
       begin false = (refl, λ zs q k. k)
 
-  simple_is : (d : Held) (a : List Token) → Gives (simple (expr n) (pattern n)) d a (Loose (λ x r. IsSimple (IsExpr n) (IsPattern n) x (d ++ a) r))
+  simple_is : (d : Held) (a : List Token) → Gives (simple exprs patterns) d a (Loose (λ x r. IsSimple E Q x (d ++ a) r))
   unfolding simple
   simple_is d a = upon (start_is d a) (λ x b h. map_loose _ (suffixes_is x.1 b) (λ w r k. grammar.simple h k))
 
   -- ---- operators
 
-  signed_is : (d : Held) (a : List Token) → Gives (signed (expr n) (pattern n)) d a (Loose (λ x r. IsPrefix (IsExpr n) (IsPattern n) x (d ++ a) r))
+  signed_is : (d : Held) (a : List Token) → Gives (signed exprs patterns) d a (Loose (λ x r. IsPrefix E Q x (d ++ a) r))
   unfolding signed
   signed_is d a = upon (sign_is d a) (λ g b h. map_loose _ (simple_is [] b) (λ x r k. grammar.signed h k))
 
-  unsigned_is : (d : Held) (a : List Token) → Gives (unsigned (expr n) (pattern n)) d a (Loose (λ x r. IsPrefix (IsExpr n) (IsPattern n) x (d ++ a) r))
+  unsigned_is : (d : Held) (a : List Token) → Gives (unsigned exprs patterns) d a (Loose (λ x r. IsPrefix E Q x (d ++ a) r))
   unfolding unsigned
   unsigned_is d a = map_loose _ (simple_is d a) (λ x r k. grammar.unsigned k)
 
-  prefix_is : (d : Held) (a : List Token) → Gives (prefix (expr n) (pattern n)) d a (Loose (λ x r. IsPrefix (IsExpr n) (IsPattern n) x (d ++ a) r))
+  prefix_is : (d : Held) (a : List Token) → Gives (prefix exprs patterns) d a (Loose (λ x r. IsPrefix E Q x (d ++ a) r))
   unfolding prefix
   prefix_is d a = both begins_sign (signed_is d a) (unsigned_is d a)
 
   abbrev Operations : List Operation → List Token → List Token → Type 0
-  Operations = IsOperations (IsExpr n) (IsPattern n)
+  Operations = IsOperations E Q
 
-  operand_is : (a : List Token) (R : Prefix → List Token → Type 0) → ((x : Prefix) (b r : List Token) → IsLine a b → IsPrefix (IsExpr n) (IsPattern n) x b r → R x r) → Gives (operand (expr n) (pattern n)) [] a (Loose R)
+  operand_is : (a : List Token) (R : Prefix → List Token → Type 0) → ((x : Prefix) (b r : List Token) → IsLine a b → IsPrefix E Q x b r → R x r) → Gives (operand exprs patterns) [] a (Loose R)
   unfolding operand line_operand
   operand_is a R f = both (same see.Newline) (upon (marked see.Newline [] a) (λ s b h. as_loose (prefix_is [] b) (λ x r k. f x b r (phrase.one_nl h) k))) (as_loose (prefix_is [] a) (λ x r k. f x a r phrase.no_nl k))
 
@@ -411,47 +403,41 @@ module _ (n : ℕ) (sound : (d : Held) (a : List Token) → Gives (expr n) d a (
   abbrev OneOperation : Operation → List Token → List Token → Type 0
   OneOperation y a r = (ys : List Operation) (q : List Token) → Operations ys r q → Operations (y ∷ ys) a q
 
-  operation_is : (d : Held) (a : List Token) → Gives (operation (expr n) (pattern n)) d a (Loose (λ y r. OneOperation y (d ++ a) r))
+  operation_is : (d : Held) (a : List Token) → Gives (operation exprs patterns) d a (Loose (λ y r. OneOperation y (d ++ a) r))
   unfolding operation
   operation_is d a = upon (operator_is d a) (λ o b h. map_loose _ (operand_is b (λ x r. OneOperation (operation_tree o x) (d ++ a) r) (λ x c r i k ys q m. grammar.operation h i k m)) (λ x r k. k))
 
-  operation_eats : Eats (operation (expr n) (pattern n))
-  operation_eats = eats_of n (good_operation n expr pattern (level n) (pattern_level n)) refl
-
-  infix_is : (d : Held) (a : List Token) → Gives (infix_expr (expr n) (pattern n)) d a (Loose (λ x r. IsInfix (IsExpr n) (IsPattern n) x (d ++ a) r))
+  infix_is : (d : Held) (a : List Token) → Gives (infix_expr exprs patterns) d a (Loose (λ x r. IsInfix E Q x (d ++ a) r))
   unfolding infix_expr operations
-  infix_is d a = next (prefix_is d a) (λ x e b h. map_loose _ (listing is_operator (operation (expr n) (pattern n)) refl refl refl operation_eats OneOperation Operations
-      (λ ys r. IsInfix (IsExpr n) (IsPattern n) (infix_tree x ys) (d ++ a) r) (λ r m. grammar.no_operation m) (λ y ys a b r k m. k ys r m) operation_is [] e b (h.held, λ zs r m. grammar.«infix» h.is m)) (λ ys r k. k))
+  infix_is d a = next (prefix_is d a) (λ x e b h. map_loose _ (listing is_operator (operation exprs patterns) refl refl refl ok.items.operated OneOperation Operations
+      (λ ys r. IsInfix E Q (infix_tree x ys) (d ++ a) r) (λ r m. grammar.no_operation m) (λ y ys a b r k m. k ys r m) operation_is [] e b (h.held, λ zs r m. grammar.«infix» h.is m)) (λ ys r k. k))
 
   -- ---- cases
 
-  guarded_is : (d : Held) (a : List Token) → Gives (guarded (expr n) (pattern n)) d a (Loose (λ x r. IsOption (same see.If) (IsGuard (IsExpr n) (IsPattern n)) x (d ++ a) r))
+  guarded_is : (d : Held) (a : List Token) → Gives (guarded exprs patterns) d a (Loose (λ x r. IsOption (same see.If) (IsGuard E Q) x (d ++ a) r))
   unfolding guarded
   guarded_is d a = upon (marked see.If d a) (λ s b h. map_loose _ (infix_is [] b) (λ x r k. phrase.present (grammar.guard h k)))
 
-  case_is : (d : Held) (a : List Token) → Gives (case_reader (expr n) (pattern n)) d a (Clean (λ x r. IsCase (IsExpr n) (IsPattern n) x (d ++ a) r))
+  case_is : (d : Held) (a : List Token) → Gives (case_reader exprs patterns) d a (Clean (λ x r. IsCase E Q x (d ++ a) r))
   unfolding case_reader
-  case_is d a = upon (marked see.Case d a) (λ s b h. next (pattern_is n [] b) (λ p e c i. next (perhaps (same see.If) None i.held refl refl (guarded_is e c) (λ k. phrase.absent k)) (λ g e2 c2 j. upon (marked see.Arrow e2 c2) (λ t c3 w. map_clean _ (block_is c3) (λ x r k. grammar.«case» h i.is j.is w k)))))
+  case_is d a = upon (marked see.Case d a) (λ s b h. next (ok.inside.is [] b) (λ p e c i. next (perhaps (same see.If) None i.held refl refl (guarded_is e c) (λ k. phrase.absent k)) (λ g e2 c2 j. upon (marked see.Arrow e2 c2) (λ t c3 w. map_clean _ (block_is c3) (λ x r k. grammar.«case» h i.is j.is w k)))))
 
-  case_eats : Eats (case_reader (expr n) (pattern n))
-  case_eats = eats_of n (good_case n expr pattern (level n) (pattern_level n)) refl
-
-  cases_is : (d : Held) (a : List Token) → Gives (cases (expr n) (pattern n)) d a (Clean (λ c r. IsCases (IsExpr n) (IsPattern n) c.0 c.1 (d ++ a) r))
+  cases_is : (d : Held) (a : List Token) → Gives (cases exprs patterns) d a (Clean (λ c r. IsCases E Q c.0 c.1 (d ++ a) r))
   unfolding cases more_cases
-  cases_is d a = upon (marked see.OpenBrace d a) (λ s0 b h. upon (case_is [] b) (λ x c i. next (listing (same see.Case) (case_reader (expr n) (pattern n)) refl refl refl case_eats (IsCase (IsExpr n) (IsPattern n)) (IsMoreCases (IsExpr n) (IsPattern n))
-      (λ ys q. (s : Span) (r : List Token) → IsWord see.CloseBrace s q r → IsCases (IsExpr n) (IsPattern n) (cases_tree x ys) s (d ++ a) r) (λ r m. grammar.no_case m) (λ y ys a b r k m. grammar.a_case k m) (λ e q. looser (case_is e q)) [] [] c (none_held, λ zs q m s r w. grammar.cases h i m w))
+  cases_is d a = upon (marked see.OpenBrace d a) (λ s0 b h. upon (case_is [] b) (λ x c i. next (listing (same see.Case) (case_reader exprs patterns) refl refl refl ok.items.a_case (IsCase E Q) (IsMoreCases E Q)
+      (λ ys q. (s : Span) (r : List Token) → IsWord see.CloseBrace s q r → IsCases E Q (cases_tree x ys) s (d ++ a) r) (λ r m. grammar.no_case m) (λ y ys a b r k m. grammar.a_case k m) (λ e q. looser (case_is e q)) [] [] c (none_held, λ zs q m s r w. grammar.cases h i m w))
       (λ ys e q k. map_clean _ (marked see.CloseBrace e q) (λ s r w. k.is s r w))))
 
   -- ---- else
 
   abbrev OtherIs : List Token → Option Expr → List Token → Type 0
-  OtherIs m y r = IsOther (IsExpr n) (IsPattern n) y m r
+  OtherIs m y r = IsOther E Q y m r
 
-  with_else_is : (d : Held) (a m : List Token) → IsSemi m a → Gives (with_else (expr n) (pattern n)) d a (Loose (OtherIs m))
+  with_else_is : (d : Held) (a m : List Token) → IsSemi m a → Gives (with_else exprs patterns) d a (Loose (OtherIs m))
   unfolding with_else
-  with_else_is d a m i = absorbed (upon (marked see.Else [] a) (λ s b h. map_loose _ (sound [] b) (λ x r k. grammar.an_else i h k)))
+  with_else_is d a m i = absorbed (upon (marked see.Else [] a) (λ s b h. map_loose _ (ok.is [] b) (λ x r k. grammar.an_else i h k)))
 
-  else_or : (q : Reader (Option Expr)) (d : Held) (a : List Token) → IsSemi (d ++ a) a → (same see.Else (ahead a) ≡ false → Gives q d a (Loose (OtherIs (d ++ a)))) → Gives (if same see.Else (ahead a) then with_else (expr n) (pattern n) else q) d a (Loose (OtherIs (d ++ a)))
+  else_or : (q : Reader (Option Expr)) (d : Held) (a : List Token) → IsSemi (d ++ a) a → (same see.Else (ahead a) ≡ false → Gives q d a (Loose (OtherIs (d ++ a)))) → Gives (if same see.Else (ahead a) then with_else exprs patterns else q) d a (Loose (OtherIs (d ++ a)))
   else_or q d a i f = branch_by (same see.Else (ahead a)) (λ _. with_else_is d a (d ++ a) i) f
 
   no_other : (d : Held) (a : List Token) → Pending d → else_follows (d ++ a) ≡ false → Gives (pure None) d a (Loose (OtherIs (d ++ a)))
@@ -466,31 +452,31 @@ module _ (n : ℕ) (sound : (d : Held) (a : List Token) → Gives (expr n) d a (
   lines_at : (t u : Token) (b : List Token) → sort t ≡ see.Newline → sort u ≡ see.Newline → IsSemi (t ∷ u ∷ b) b
   lines_at t u b i j = phrase.two_lines {s = t.span} {t = u.span} (phrase.token (rw i refl)) (phrase.token (rw j refl))
 
-  third_is : (d : Held) (b : List Token) → Pending d → IsSemi (d ++ b) b → (same see.Else (ahead b) ≡ false → else_follows (d ++ b) ≡ false) → Gives (third (expr n) (pattern n)) d b (Loose (OtherIs (d ++ b)))
+  third_is : (d : Held) (b : List Token) → Pending d → IsSemi (d ++ b) b → (same see.Else (ahead b) ≡ false → else_follows (d ++ b) ≡ false) → Gives (third exprs patterns) d b (Loose (OtherIs (d ++ b)))
   unfolding third
-  third_is d b k i f = looked (third_by (expr n) (pattern n)) (else_or (pure None) d b i (λ h. no_other d b k (f h)))
+  third_is d b k i f = looked (third_by exprs patterns) (else_or (pure None) d b i (λ h. no_other d b k (f h)))
 
-  behind_semi : (t : Token) (b : List Token) → sort t ≡ see.Semicolon → Gives (third (expr n) (pattern n)) (t ∷ []) b (Loose (OtherIs (t ∷ b)))
+  behind_semi : (t : Token) (b : List Token) → sort t ≡ see.Semicolon → Gives (third exprs patterns) (t ∷ []) b (Loose (OtherIs (t ∷ b)))
   behind_semi t b i = third_is (t ∷ []) b (semi_held i) (semi_at t b i) (λ h. rw i (rw h refl))
 
-  behind_lines : (t u : Token) (b : List Token) → sort t ≡ see.Newline → sort u ≡ see.Newline → Gives (third (expr n) (pattern n)) (t ∷ u ∷ []) b (Loose (OtherIs (t ∷ u ∷ b)))
+  behind_lines : (t u : Token) (b : List Token) → sort t ≡ see.Newline → sort u ≡ see.Newline → Gives (third exprs patterns) (t ∷ u ∷ []) b (Loose (OtherIs (t ∷ u ∷ b)))
   behind_lines t u b i j = third_is (t ∷ u ∷ []) b (lines_held i j) (lines_at t u b i j) (λ h. rw i (rw j (rw h refl)))
 
   -- a second line end, or none
-  more_lines : (t : Token) (b : List Token) → sort t ≡ see.Newline → same see.Else (ahead b) ≡ false → Gives (if same see.Newline (ahead b) then hold (third (expr n) (pattern n)) else pure None) (t ∷ []) b (Loose (OtherIs (t ∷ b)))
+  more_lines : (t : Token) (b : List Token) → sort t ≡ see.Newline → same see.Else (ahead b) ≡ false → Gives (if same see.Newline (ahead b) then hold (third exprs patterns) else pure None) (t ∷ []) b (Loose (OtherIs (t ∷ b)))
   more_lines t [] i k = no_other (t ∷ []) [] (line_held i) (rw i refl)
   more_lines t (u ∷ b) i k = branch_by (same see.Newline (sort u)) (λ h. holding (behind_lines t u b i (line_token u h))) (λ h. no_other (t ∷ []) (u ∷ b) (line_held i) (rw i (rw k (rw h refl))))
 
-  behind_one : (t : Token) (b : List Token) → sort t ≡ see.Newline → Gives (second (expr n) (pattern n)) (t ∷ []) b (Loose (OtherIs (t ∷ b)))
+  behind_one : (t : Token) (b : List Token) → sort t ≡ see.Newline → Gives (second exprs patterns) (t ∷ []) b (Loose (OtherIs (t ∷ b)))
   unfolding second
-  behind_one t b i = looked (second_by (expr n) (pattern n)) (else_or (if same see.Newline (ahead b) then hold (third (expr n) (pattern n)) else pure None) (t ∷ []) b (line_at t b i) (λ k. more_lines t b i k))
+  behind_one t b i = looked (second_by exprs patterns) (else_or (if same see.Newline (ahead b) then hold (third exprs patterns) else pure None) (t ∷ []) b (line_at t b i) (λ k. more_lines t b i k))
 
   semi_token : (o : Ahead) → same see.Semicolon o ≡ true → o ≡ see.Semicolon
   semi_token see.Semicolon h = refl
   semi_token o h = absurd cc
 
   abbrev by_waiting : Waiting → Ahead → Reader (Option Expr)
-  by_waiting w o = if semi_from w o then hold (third (expr n) (pattern n)) else if line_from w o then hold (second (expr n) (pattern n)) else pure None
+  by_waiting w o = if semi_from w o then hold (third exprs patterns) else if line_from w o then hold (second exprs patterns) else pure None
 
   nothing_waits : (a : List Token) → same see.Else (ahead a) ≡ false → Gives (by_waiting waiting.Nothing (ahead a)) [] a (Loose (OtherIs a))
   nothing_waits [] k = no_other [] [] none_held refl
@@ -508,60 +494,60 @@ module _ (n : ℕ) (sound : (d : Held) (a : List Token) → Gives (expr n) d a (
   semi_before d a (line_held {t = t} i) = line_at t a i
   semi_before d a (lines_held {t = t} {u = u} i j) = lines_at t u a i j
 
-  other_is : (d : Held) (a : List Token) → Pending d → Gives (other (expr n) (pattern n)) d a (Loose (OtherIs (d ++ a)))
+  other_is : (d : Held) (a : List Token) → Pending d → Gives (other exprs patterns) d a (Loose (OtherIs (d ++ a)))
   unfolding other
-  other_is d a k = looked (other_by (expr n) (pattern n)) (else_or (by_waiting (waits d) (ahead a)) d a (semi_before d a k) (λ h. other_from d a k h))
+  other_is d a k = looked (other_by exprs patterns) (else_or (by_waiting (waits d) (ahead a)) d a (semi_before d a k) (λ h. other_from d a k h))
 
   -- ---- expressions
 
-  condition_is : (d : Held) (a : List Token) → Gives (condition (expr n) (pattern n)) d a (Clean (λ c r. IsCondition (IsExpr n) (IsPattern n) c (d ++ a) r))
+  condition_is : (d : Held) (a : List Token) → Gives (condition exprs patterns) d a (Clean (λ c r. IsCondition E Q c (d ++ a) r))
   unfolding condition
-  condition_is d a = upon (marked see.OpenParen d a) (λ s b h. next (sound [] b) (λ c e c1 i. upon (marked see.CloseParen e c1) (λ t c2 w. map_clean _ (lines_is c2) (λ _ r k. grammar.condition h i.is w k))))
+  condition_is d a = upon (marked see.OpenParen d a) (λ s b h. next (ok.is [] b) (λ c e c1 i. upon (marked see.CloseParen e c1) (λ t c2 w. map_clean _ (lines_is c2) (λ _ r k. grammar.condition h i.is w k))))
 
-  if_is : (d : Held) (a : List Token) → Gives (if_expr (expr n) (pattern n)) d a (Loose (λ x r. IsAnyExpr (IsExpr n) (IsPattern n) x (d ++ a) r))
+  if_is : (d : Held) (a : List Token) → Gives (if_expr exprs patterns) d a (Loose (λ x r. IsAnyExpr E Q x (d ++ a) r))
   unfolding if_expr
-  if_is d a = upon (marked see.If d a) (λ s b h. upon (condition_is [] b) (λ c c1 i. next (sound [] c1) (λ x e c2 j. map_loose _ (other_is e c2 j.held) (λ y r k. grammar.«if» h i j.is k))))
+  if_is d a = upon (marked see.If d a) (λ s b h. upon (condition_is [] b) (λ c c1 i. next (ok.is [] c1) (λ x e c2 j. map_loose _ (other_is e c2 j.held) (λ y r k. grammar.«if» h i j.is k))))
 
-  while_is : (d : Held) (a : List Token) → Gives (while_expr (expr n) (pattern n)) d a (Loose (λ x r. IsAnyExpr (IsExpr n) (IsPattern n) x (d ++ a) r))
+  while_is : (d : Held) (a : List Token) → Gives (while_expr exprs patterns) d a (Loose (λ x r. IsAnyExpr E Q x (d ++ a) r))
   unfolding while_expr
-  while_is d a = upon (marked see.While d a) (λ s b h. upon (condition_is [] b) (λ c c1 i. map_loose _ (sound [] c1) (λ x r k. grammar.while h i k)))
+  while_is d a = upon (marked see.While d a) (λ s b h. upon (condition_is [] b) (λ c c1 i. map_loose _ (ok.is [] c1) (λ x r k. grammar.while h i k)))
 
-  handler_is : (d : Held) (a : List Token) → Gives (handler (expr n) (pattern n)) d a (Clean (λ c r. IsOption (same see.Catch) (IsHandler (IsExpr n) (IsPattern n)) c (d ++ a) r))
+  handler_is : (d : Held) (a : List Token) → Gives (handler exprs patterns) d a (Clean (λ c r. IsOption (same see.Catch) (IsHandler E Q) c (d ++ a) r))
   unfolding handler
   handler_is d a = upon (marked see.Catch d a) (λ s b h. map_clean _ (cases_is [] b) (λ c r k. phrase.present (grammar.handler h k)))
 
-  finalizer_is : (d : Held) (a : List Token) → Gives (finalizer (expr n) (pattern n)) d a (Loose (λ f r. IsOption (same see.Finally) (IsFinalizer (IsExpr n) (IsPattern n)) f (d ++ a) r))
+  finalizer_is : (d : Held) (a : List Token) → Gives (finalizer exprs patterns) d a (Loose (λ f r. IsOption (same see.Finally) (IsFinalizer E Q) f (d ++ a) r))
   unfolding finalizer
-  finalizer_is d a = upon (marked see.Finally d a) (λ s b h. map_loose _ (sound [] b) (λ x r k. phrase.present (grammar.finalizer h k)))
+  finalizer_is d a = upon (marked see.Finally d a) (λ s b h. map_loose _ (ok.is [] b) (λ x r k. phrase.present (grammar.finalizer h k)))
 
-  try_is : (d : Held) (a : List Token) → Gives (try_expr (expr n) (pattern n)) d a (Loose (λ x r. IsAnyExpr (IsExpr n) (IsPattern n) x (d ++ a) r))
+  try_is : (d : Held) (a : List Token) → Gives (try_expr exprs patterns) d a (Loose (λ x r. IsAnyExpr E Q x (d ++ a) r))
   unfolding try_expr
-  try_is d a = upon (marked see.Try d a) (λ s b h. next (sound [] b) (λ x e c i. next (perhaps (same see.Catch) None i.held refl refl (looser (handler_is e c)) (λ k. phrase.absent k)) (λ g e2 c2 j. map_loose _ (perhaps (same see.Finally) None j.held refl refl (finalizer_is e2 c2) (λ k. phrase.absent k)) (λ f r m. grammar.try h i.is j.is m))))
+  try_is d a = upon (marked see.Try d a) (λ s b h. next (ok.is [] b) (λ x e c i. next (perhaps (same see.Catch) None i.held refl refl (looser (handler_is e c)) (λ k. phrase.absent k)) (λ g e2 c2 j. map_loose _ (perhaps (same see.Finally) None j.held refl refl (finalizer_is e2 c2) (λ k. phrase.absent k)) (λ f r m. grammar.try h i.is j.is m))))
 
-  throw_is : (d : Held) (a : List Token) → Gives (throw_expr (expr n) (pattern n)) d a (Loose (λ x r. IsAnyExpr (IsExpr n) (IsPattern n) x (d ++ a) r))
+  throw_is : (d : Held) (a : List Token) → Gives (throw_expr exprs patterns) d a (Loose (λ x r. IsAnyExpr E Q x (d ++ a) r))
   unfolding throw_expr
-  throw_is d a = upon (marked see.Throw d a) (λ s b h. map_loose _ (sound [] b) (λ x r k. grammar.throw h k))
+  throw_is d a = upon (marked see.Throw d a) (λ s b h. map_loose _ (ok.is [] b) (λ x r k. grammar.throw h k))
 
-  match_is : (i : Infix) (d : Held) (a m : List Token) → IsInfix (IsExpr n) (IsPattern n) i m (d ++ a) → Gives (match_behind (expr n) (pattern n) i) d a (Loose (λ x r. IsAnyExpr (IsExpr n) (IsPattern n) x m r))
+  match_is : (i : Infix) (d : Held) (a m : List Token) → IsInfix E Q i m (d ++ a) → Gives (match_behind exprs patterns i) d a (Loose (λ x r. IsAnyExpr E Q x m r))
   unfolding match_behind
   match_is i d a m k = looser (upon (marked see.Match d a) (λ s b h. map_clean _ (cases_is [] b) (λ c r w. grammar.match k h w)))
 
-  assign_is : (i : Infix) (d : Held) (a m : List Token) → IsInfix (IsExpr n) (IsPattern n) i m (d ++ a) → Gives (assign_behind (expr n) (pattern n) i) d a (Loose (λ x r. IsAnyExpr (IsExpr n) (IsPattern n) x m r))
+  assign_is : (i : Infix) (d : Held) (a m : List Token) → IsInfix E Q i m (d ++ a) → Gives (assign_behind exprs patterns i) d a (Loose (λ x r. IsAnyExpr E Q x m r))
   unfolding assign_behind
-  assign_is i d a m k = upon (marked see.Equals d a) (λ s b h. map_loose _ (sound [] b) (λ x r w. grammar.assign k h w))
+  assign_is i d a m k = upon (marked see.Equals d a) (λ s b h. map_loose _ (ok.is [] b) (λ x r w. grammar.assign k h w))
 
-  plain_is : (d : Held) (a : List Token) → Gives (plain (expr n) (pattern n)) d a (Loose (λ x r. IsAnyExpr (IsExpr n) (IsPattern n) x (d ++ a) r))
+  plain_is : (d : Held) (a : List Token) → Gives (plain exprs patterns) d a (Loose (λ x r. IsAnyExpr E Q x (d ++ a) r))
   unfolding plain behind_infix
   plain_is d a = next (infix_is d a) (λ i e b h. perhaps at_behind (plain_expr i) h.held refl refl (both (same see.Match) (match_is i e b (d ++ a) h.is) (assign_is i e b (d ++ a) h.is)) (λ k. grammar.plain h.is k))
 
-  any_is : (d : Held) (a : List Token) → Gives (any (expr n) (pattern n)) d a (Loose (λ x r. IsAnyExpr (IsExpr n) (IsPattern n) x (d ++ a) r))
+  pub any_is : (d : Held) (a : List Token) → Gives (any exprs patterns) d a (Loose (λ x r. IsAnyExpr E Q x (d ++ a) r))
   unfolding any
   any_is d a = both (same see.If) (if_is d a) (both (same see.While) (while_is d a) (both (same see.Try) (try_is d a) (both (same see.Throw) (throw_is d a) (plain_is d a))))
 
 pub expr_is : (n : ℕ) (d : Held) (a : List Token) → Gives (expr n) d a (Loose (λ x r. IsExpr n x (d ++ a) r))
 unfolding expr too_deep
 expr_is zero d a = stopped (stop (begins_expr (ahead a) && nothing d) a) refl
-expr_is (suc n) d a = any_is n (expr_is n) d a
+expr_is (suc n) d a = any_is (record { items = expr_items n; is = expr_is n; inside = sound_patterns n }) d a
 
 pub is_derived : (n : ℕ) (st new : State) (result : Result Expr Stopped) → Reads (expr n st) result new → IfOk result (λ x. IsExpr n x (st.0 ++ st.1) (new.0 ++ new.1))
 is_derived n st new (Ok x) h = ((expr_is n st.0 st.1).gives x new.0 new.1 h).is

@@ -8,6 +8,7 @@ pub mod Starts
 pub mod LastNew
 pub mod Phrases
 pub mod Grammar
+pub mod Until
 -- The rules as readers, which the contracts cite.
 pub mod Reading
 pub mod Rules
