@@ -31,3 +31,4 @@ pub mod OneTree
 pub mod Tied
 pub mod PatternTied
 pub mod ExprTied
+pub mod Until

@@ -47,7 +47,7 @@ front_pat test v g u i j k (grammar.only_built h) = front_constructor test v g h
 pub front_any : {Q : Pattern → List Token → List Token → Type 0} (p : Pattern) (a r : List Token) (test : Ahead → Bool) (v : Bool) → Untold test v → IsAnyPattern Q p a r → test (ahead a) ≡ v
 front_any p a r test v u (grammar.alternatives h m) = front_pat test v u.id u.underscore u.paren u.minus u.literal h
 
-front_pattern : (n : ℕ) (p : Pattern) (a r : List Token) (test : Ahead → Bool) (v : Bool) → Untold test v → IsPattern n p a r → test (ahead a) ≡ v
+pub front_pattern : (n : ℕ) (p : Pattern) (a r : List Token) (test : Ahead → Bool) (v : Bool) → Untold test v → IsPattern n p a r → test (ahead a) ≡ v
 front_pattern zero p a r test v u h = absurd h
 front_pattern (suc n) p a r test v u h = front_any p a r test v u h
 

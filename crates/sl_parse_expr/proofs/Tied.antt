@@ -1,7 +1,7 @@
 -- Three readers: one that stops for depth at once, one that does so until k tokens are left, and one that goes deeper. Where
 -- the first doesn't stop for depth they are alike. Where it does with more than k tokens left, the second stops too, and
 -- else the second is the third.
-use Rattle.std.proofs.Common.{◌≡◌, ℕ, zero, suc, ◌+◌, ◌≤◌, ◌<◌, Bool, true, false, List, [], ◌∷◌, ◌++◌, length, Option, Some, None, Ok, Err, refl, sym, ap, ◌∙◌, arith, inl, inr, ◌⊎◌}
+use Rattle.std.proofs.Common.{◌≡◌, ℕ, zero, suc, ◌+◌, ◌≤◌, ◌<◌, Bool, true, false, List, [], ◌∷◌, ◌++◌, length, Option, Some, None, Ok, Err, refl, sym, ap, subst, ◌∙◌, arith, inl, inr, ◌⊎◌}
 use Rattle.std.specs.Prelude.{if◌then◌else◌}
 use Rattle.std.proofs.lemmas.List.{length-append}
 use Rattle.sl_text.specs.declared.span.Span.{Span}
@@ -9,11 +9,11 @@ use Rattle.sl_ast.specs.declared.token.Token.{Token}
 use Rattle.sl_parse_expr.specs.declared.ahead.Ahead.{Ahead}
 use Rattle.sl_parse_expr.specs.Reading.{Stop, State, Outcome, Reader, and_then, ◌>>=◌, pure, ahead, nothing, rest, first, hold, look, choose_by, choose, option, if_clean, shorter, fold, fold_from, expect, one, one_by}
 use Rattle.sl_parse_expr.specs.Reading as reading
-use Rattle.sl_parse_expr.proofs.Theory.{Held, Good, ok_of, err_of, stop, decide, err_is}
+use Rattle.sl_parse_expr.proofs.Theory.{Held, Good, ok_of, err_of, stop, ok_2}
 use Rattle.sl_parse_expr.proofs.Loops.{Eats}
 
 -- at most k tokens are left behind what was read
-abbrev Few : {A : Type 0} → ℕ → Outcome A → Type 0
+abbrev pub Few : {A : Type 0} → ℕ → Outcome A → Type 0
 Few k (Ok q) = length q.1.1 ≤ k
 Few k (Err s) = Unit {0}
 
@@ -24,7 +24,9 @@ pub data AtOne {A : Type 0} (k : ℕ) (x u y : Outcome A) : Type 0 where
 
 -- the same, however the outcomes are written
 along : {A : Type 0} {k : ℕ} {x u y x2 u2 y2 : Outcome A} → x ≡ x2 → u ≡ u2 → y ≡ y2 → AtOne k x2 u2 y2 → AtOne k x u y
-along refl refl refl h = h
+along i j l (alike a b) = alike (i ∙ a ∙ sym j) (j ∙ b ∙ sym l)
+along {k = k} i j l (passed at a b c few) = passed at (i ∙ a) b (j ∙ c ∙ sym l) (subst (λ (o : Outcome _). Few k o) (sym j) few)
+along i j l (stopped at a b c) = stopped at (i ∙ a) (j ∙ b) c
 
 pub record Tied {A : Type 0} (k : ℕ) (x u y : Reader A) : Type 0 where
   pub tied : (st : State) → AtOne k (x st) (u st) (y st)
@@ -58,7 +60,7 @@ unfolding expect one
 word k what = alone k (expect what) (λ st v new e. go st.0 st.1 v new e)
   where
     of_given : (o : Option Span) (t : Token) (ts : List Token) (v : Span) (new : State) → reading.given o t ts ≡ Ok (v, new) → length new.1 ≤ length (t ∷ ts)
-    of_given (Some x) t ts v new e = let h : ts ≡ new.1 = cc in omega (arith, ap length h)
+    of_given (Some x) t ts v new e = let h : ts ≡ new.1 = ok_2 e in omega (arith, ap length h)
     of_given None t ts v new e = absurd cc
 
     go : (d ts : List Token) (v : Span) (new : State) → one_by (reading.word what) d ts ≡ Ok (v, new) → length new.1 ≤ length ts
@@ -70,7 +72,7 @@ pub given : {A : Type 0} (k : ℕ) (x : A) → Tied k (pure x) (pure x) (pure x)
 given k x = alone k (pure x) (λ st v new e. same_length st v new e)
   where
     same_length : (st : State) (v : _) (new : State) → pure x st ≡ Ok (v, new) → length new.1 ≤ length st.1
-    same_length st v new e = let h : st.1 ≡ new.1 = cc in omega (arith, ap length h)
+    same_length st v new e = let h : st.1 ≡ new.1 = ok_2 e in omega (arith, ap length h)
 
 -- ---- one after the other
 
@@ -138,7 +140,7 @@ pub perhaps : {A : Type 0} {k : ℕ} {P Pu Py : Reader A} (test : Ahead → Bool
 perhaps {A} {k} test none p = chosen_by (if_clean test) p (given k none)
 
 less_rest : (ts : List Token) → length (rest ts) ≤ length ts
-less_rest [] = arith
+less_rest [] = omega arith
 less_rest (t ∷ ts) = omega arith
 
 pub held : {A : Type 0} {k : ℕ} {P Pu Py : Reader A} → Tied k P Pu Py → Tied k (hold P) (hold Pu) (hold Py)
@@ -150,32 +152,45 @@ held p = record {
 
 -- ---- loops
 
+tied_if : {A : Type 0} {k : ℕ} {P Pu Py Q Qu Qy : Reader A} (b : Bool) (st : State) → Tied k P Pu Py → Tied k Q Qu Qy → AtOne k (if b then P st else Q st) (if b then Pu st else Qu st) (if b then Py st else Qy st)
+tied_if true st p q = p.tied st
+tied_if false st p q = q.tied st
+
+near_if : {A : Type 0} {k : ℕ} {P Pu Py Q Qu Qy : Reader A} (b : Bool) (st : State) → length st.1 ≤ k → Tied k P Pu Py → Tied k Q Qu Qy → (if b then Pu st else Qu st) ≡ (if b then Py st else Qy st)
+near_if true st l p q = p.near st l
+near_if false st l p q = q.near st l
+
+less_if : {A : Type 0} {k : ℕ} {P Pu Py Q Qu Qy : Reader A} (b : Bool) (st : State) (v : A) (new : State) → Tied k P Pu Py → Tied k Q Qu Qy → (if b then Pu st else Qu st) ≡ Ok (v, new) → length new.1 ≤ length st.1
+less_if true st v new p q e = p.less st v new e
+less_if false st v new p q e = q.less st v new e
+
 module _ {S A : Type 0} {k : ℕ} (goes : S → Ahead → List Token → Bool) {item item_u item_y : Reader A} (add : S → A → S) (t : Tied k item item_u item_y) where
   -- a turn of the loop, and the turns behind it
   abbrev turn : Reader A → ℕ → S → List Token → A → Reader S
   turn q n s before x new = if shorter new.1 before then fold_from goes q add n (add s x) new else Ok (add s x, new)
 
   abbrev go_on : Reader A → ℕ → S → List Token → Reader S
-  go_on q n s before = q >>= turn q n s before
+  go_on q n s before = q >>= (λ x. turn q n s before x)
+
+  module _ (n : ℕ) (further : (s : S) → Tied k (fold_from goes item add n s) (fold_from goes item_u add n s) (fold_from goes item_y add n s)) (s : S) where
+    again : (before : List Token) (x : A) → Tied k (turn item n s before x) (turn item_u n s before x) (turn item_y n s before x)
+    again before x = record {
+      tied = λ st. tied_if (shorter st.1 before) st (further (add s x)) (given k (add s x));
+      near = λ st l. near_if (shorter st.1 before) st l (further (add s x)) (given k (add s x));
+      less = λ st v new e. less_if (shorter st.1 before) st v new (further (add s x)) (given k (add s x)) e;
+    }
+
+    on : (before : List Token) → Tied k (go_on item n s before) (go_on item_u n s before) (go_on item_y n s before)
+    on before = bind t (again before)
 
   folded_from : (n : ℕ) (s : S) → Tied k (fold_from goes item add n s) (fold_from goes item_u add n s) (fold_from goes item_y add n s)
   unfolding fold_from
   folded_from zero s = given k s
   folded_from (suc n) s = record {
-    tied = λ st. (step st.1 (goes s (ahead st.1) st.0)).tied st;
-    near = λ st l. (step st.1 (goes s (ahead st.1) st.0)).near st l;
-    less = λ st v new e. (step st.1 (goes s (ahead st.1) st.0)).less st v new e;
+    tied = λ st. tied_if (goes s (ahead st.1) st.0) st (on n (folded_from n) s st.1) (given k s);
+    near = λ st l. near_if (goes s (ahead st.1) st.0) st l (on n (folded_from n) s st.1) (given k s);
+    less = λ st v new e. less_if (goes s (ahead st.1) st.0) st v new (on n (folded_from n) s st.1) (given k s) e;
   }
-    where
-      again : (before : List Token) (x : A) → Tied k (turn item n s before x) (turn item_u n s before x) (turn item_y n s before x)
-      again before x = record {
-        tied = λ st. (either (shorter st.1 before) (folded_from n (add s x)) (given k (add s x))).tied st;
-        near = λ st l. (either (shorter st.1 before) (folded_from n (add s x)) (given k (add s x))).near st l;
-        less = λ st v new e. (either (shorter st.1 before) (folded_from n (add s x)) (given k (add s x))).less st v new e;
-      }
-
-      step : (before : List Token) (b : Bool) → Tied k (if b then go_on item n s before else pure s) (if b then go_on item_u n s before else pure s) (if b then go_on item_y n s before else pure s)
-      step before b = either b (bind t (again before)) (given k s)
 
   pub folded : (s : S) → Tied k (fold goes item add s) (fold goes item_u add s) (fold goes item_y add s)
   unfolding fold

@@ -38,7 +38,7 @@ pub use chain::Chain;
 pub use cursor::{Cursor, Waiting};
 pub use items::behind_item;
 pub use last_new::ends_in_new;
-pub use laws::expressions;
+pub use laws::{depths, expressions};
 pub use reading::read_args;
 use reading::read_level;
 use sl_ast::Expr;
