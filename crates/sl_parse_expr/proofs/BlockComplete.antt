@@ -87,7 +87,6 @@ reads_behind true e b (lines_held {t = t} {u = u} k l) h = record { held = t ∷
 -- ---- the rules
 
 module _ {exprs : Reader Expr} {patterns : Reader Pattern} {E : Expr → List Token → List Token → Type 0} {Q : Pattern → List Token → List Token → Type 0} (ok : CompleteExprs exprs patterns E Q) where
-
   reads_next_arg : {s : Span} {x : Expr} {a b c : List Token} → IsWord see.Comma s a b → E x b c → Reaches (next_arg exprs patterns) [] a x c
   unfolding next_arg
   reads_next_arg w h = upon _ (marked see.Comma w) (ok.reads _ _ _ h)

@@ -128,3 +128,6 @@ pub reads_expr : (n : ℕ) (x : Expr) (a r : List Token) → IsExpr n x a r → 
 unfolding expr
 reads_expr zero x a r h = absurd h
 reads_expr (suc n) x a r h = reads_any (record { items = expr_items n; fronts = front_expr n; reads = reads_expr n; inside = complete_patterns n }) h
+
+pub complete_exprs : (n : ℕ) → CompleteExprs (expr n) (pattern n) (IsExpr n) (IsPattern n)
+complete_exprs n = record { items = expr_items n; fronts = front_expr n; reads = reads_expr n; inside = complete_patterns n }

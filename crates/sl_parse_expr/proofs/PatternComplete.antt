@@ -54,7 +54,6 @@ front_pattern (suc n) p a r test v u h = front_any p a r test v u h
 -- ---- the rules, over the patterns inside
 
 module _ {patterns : Reader Pattern} {Q : Pattern → List Token → List Token → Type 0} (ok : CompletePatterns patterns Q) where
-
   reads_next_part : {s : Span} {x : Pattern} {a b c : List Token} → IsWord see.Comma s a b → Q x b c → Reaches (next_part patterns) [] a x c
   unfolding next_part
   reads_next_part w h = upon _ (marked see.Comma w) (ok.reads _ _ _ h)

@@ -97,7 +97,7 @@ module _ {exprs : Reader Expr} {patterns : Reader Pattern} {E : Expr → List To
   unfolding no_args
   no_args_is d a = map_clean _ (marked see.CloseParen d a) (λ s r w. phrase.none_listed w)
 
-  par_args_is : (d : Held) (a : List Token) → Gives (par_args exprs patterns) d a (Clean (λ x r. IsParArgs E Q x (d ++ a) r))
+  pub par_args_is : (d : Held) (a : List Token) → Gives (par_args exprs patterns) d a (Clean (λ x r. IsParArgs E Q x (d ++ a) r))
   unfolding par_args
   par_args_is d a = upon (marked see.OpenParen d a) (λ s b h. map_clean _ (both (same see.CloseParen) (no_args_is [] b) (some_args_is [] b)) (λ xs r k. grammar.par_args h k))
 
@@ -548,6 +548,9 @@ pub expr_is : (n : ℕ) (d : Held) (a : List Token) → Gives (expr n) d a (Loos
 unfolding expr too_deep
 expr_is zero d a = stopped (stop (begins_expr (ahead a) && nothing d) a) refl
 expr_is (suc n) d a = any_is (record { items = expr_items n; is = expr_is n; inside = sound_patterns n }) d a
+
+pub sound_exprs : (n : ℕ) → SoundExprs (expr n) (pattern n) (IsExpr n) (IsPattern n)
+sound_exprs n = record { items = expr_items n; is = expr_is n; inside = sound_patterns n }
 
 pub is_derived : (n : ℕ) (st new : State) (result : Result Expr Stopped) → Reads (expr n st) result new → IfOk result (λ x. IsExpr n x (st.0 ++ st.1) (new.0 ++ new.1))
 is_derived n st new (Ok x) h = ((expr_is n st.0 st.1).gives x new.0 new.1 h).is

@@ -136,7 +136,7 @@ abbrev pub raised : ℕ → ℕ → ℕ
 raised m zero = m
 raised m (suc n) = suc (raised m n)
 
-raised_is : (m n : ℕ) → raised m n ≡ m + n
+pub raised_is : (m n : ℕ) → raised m n ≡ m + n
 raised_is m zero = omega arith
 raised_is m (suc n) = let h = raised_is m n in omega (arith, h)
 
@@ -156,7 +156,7 @@ pub expr_until : ℕ → ℕ → ℕ → Reader Expr
 expr_until k m zero = opening k m begins_expr expr (λ st. expr_stops st) (level 0) (level m)
 expr_until k m (suc n) = any (expr_until k m n) (pattern_until k m n)
 
-tied_pattern : (k m n : ℕ) → Tied k (pattern n) (pattern_until k m n) (pattern (raised m n))
+pub tied_pattern : (k m n : ℕ) → Tied k (pattern n) (pattern_until k m n) (pattern (raised m n))
 unfolding pattern pattern_until
 tied_pattern k m zero = tied_opening k m begins_pattern pattern (λ st. pattern_stops st) (pattern_level 0) (pattern_level m)
 tied_pattern k m (suc n) = tied_any_pattern (tied_pattern k m n)

@@ -19,33 +19,33 @@ use Rattle.sl_ast.specs.declared.unit.ClassModifier.TheVariants as words
 use Rattle.sl_ast.specs.declared.unit.ClassParam.{ClassParam}
 use Rattle.sl_ast.specs.declared.unit.Params.{Params}
 use Rattle.sl_ast.specs.declared.unit.Unit as file
+use Rattle.sl_ast.specs.declared.pattern.Pattern.{Pattern}
 use Rattle.sl_parse_expr.specs.declared.ahead.Ahead.{Ahead}
 use Rattle.sl_parse_expr.specs.declared.ahead.Ahead.TheVariants as see
 use Rattle.sl_parse_expr.specs.Ahead.{sort, same}
 use Rattle.sl_parse_expr.specs.Starts.{begins_binding, begins_expr}
 use Rattle.sl_parse_expr.specs.Tokens.{separates}
 use Rattle.sl_parse_expr.specs.Spans.{span_or}
-use Rattle.sl_parse_expr.specs.Reading.{Outcome, and_then, ◌>>◌, pure, absorb, ahead, hold, if_clean, choose, fold, clean}
+use Rattle.sl_parse_expr.specs.Reading.{Reader, Outcome, and_then, ◌>>◌, pure, absorb, ahead, hold, if_clean, choose, fold, clean}
 use Rattle.sl_parse_expr.specs.Rules.{added}
 use Rattle.sl_parse_expr.specs.Phrases.{IsOne, IsWord, IsMore, IsListed, IsOption, IsLine, IsSeq, none_held, line_held}
 use Rattle.sl_parse_expr.specs.Phrases as phrase
 use Rattle.sl_parse_expr.specs.Grammar.{IsName, IsTyped, IsParArgs, IsExpr, IsPattern}
 use Rattle.sl_parse_expr.specs.Grammar as inner
 use Rattle.sl_parse_expr.proofs.Theory.{ok_of, decide}
-use Rattle.sl_parse_expr.proofs.Loops.{eats_of}
 use Rattle.sl_parse_expr.proofs.Fronts.{are_same, word_ahead, binding_ahead, front, front_name}
-use Rattle.sl_parse_expr.proofs.ExprFronts.{front_expr}
+use Rattle.sl_parse_expr.proofs.Inside.{CompleteExprs}
 use Rattle.sl_parse_expr.proofs.Reaches.{Reaches, Lands, loose, upon, upon_clean, map, map_clean, single, marked, optional_clean, left, right, left_clean, right_clean, without}
 use Rattle.sl_parse_expr.proofs.Complete.{reads_name, reads_binding, reads_type}
 use Rattle.sl_parse_expr.proofs.BlockComplete.{reads_par_args}
-use Rattle.sl_parse_expr.proofs.ExprComplete.{reads_expr}
 use Rattle.sl_parse_tmpl.specs.Words.{modifier_of, modifier_by, class_modifier_of, class_modifier_by, is_modifier, is_class_modifier, begins_definition, begins_member, begins_top}
 use Rattle.sl_parse_tmpl.specs.LastNew.{member_ends_in_new, never}
 use Rattle.sl_parse_tmpl.specs.Trees.{params_span, class_tree, trait_tree, object_tree, unit_tree}
 use Rattle.sl_parse_tmpl.specs.Rules.{typed, some_type, optional_type, param, next_param, more_params, no_params, some_params, params, optional_params, private_member, open_member, plain_param, private_param, open_param, class_param, next_class_param, more_class_params, no_class_params, some_class_params, class_params, optional_class_params, modifier, modifiers, class_modifier, class_words, next_trait, traits, some_case, optional_case, at_trait, at_object, member_apart, top_apart, over, value, some_value, optional_value, val_def, var_def, lazy_def, def_def, definition, member_def, member_expr, member, member_item, body_item, members, braces, some_body, behind_line, body, some_args, optional_args, parents, optional_parents, template, class_def, trait_def, object_def, behind_modifiers, top_def, top_item, unit_item, top_defs, unit}
 use Rattle.sl_parse_tmpl.specs.Grammar.{IsRun, IsParam, IsParams, IsClassParam, IsClassParams, IsValue, IsDef, IsMember, IsBody, IsParents, IsTemplate, IsTopDef, IsUnit, Derives, body_follows}
 use Rattle.sl_parse_tmpl.specs.Grammar as grammar
-use Rattle.sl_parse_tmpl.proofs.Good.{good_body_item, member_none, good_unit_item, top_none}
+use Rattle.sl_parse_tmpl.proofs.Good.{member_none, top_none}
+use Rattle.sl_parse_tmpl.proofs.Items.{FileItems}
 use Rattle.sl_parse_tmpl.proofs.Lists.{list_ends, list_goes}
 use Rattle.sl_parse_tmpl.proofs.SeqComplete.{seq_reads}
 use Rattle.sl_parse_tmpl.proofs.Sound.{next_param_eats, next_class_param_eats, modifier_eats, class_modifier_eats, next_trait_eats}
@@ -257,30 +257,27 @@ no_separator_top o h = refl
 
 -- ---- over expressions to a depth
 
-module _ (n : ℕ) where
-  abbrev E : Expr → List Token → List Token → Type 0
-  E = IsExpr n
-
+module _ {exprs : Reader Expr} {patterns : Reader Pattern} {E : Expr → List Token → List Token → Type 0} {Q : Pattern → List Token → List Token → Type 0} (ok : CompleteExprs exprs patterns E Q) (items : FileItems exprs patterns) where
   abbrev P : ParArgs → List Token → List Token → Type 0
-  P = IsParArgs (IsExpr n) (IsPattern n)
+  P = IsParArgs E Q
 
   -- ---- definitions
 
   front_value : (e : Expr) (a r : List Token) → IsValue E P e a r → same see.Equals (ahead a) ≡ true
   front_value e a r (grammar.value w h) = front (same see.Equals) see.Equals true refl w
 
-  reads_value : {e : Expr} {a r : List Token} → IsValue E P e a r → Reaches (value n) [] a e r
+  reads_value : {e : Expr} {a r : List Token} → IsValue E P e a r → Reaches (value exprs patterns) [] a e r
   unfolding value
-  reads_value (grammar.value w h) = upon _ (marked see.Equals w) (reads_expr n _ _ _ h)
+  reads_value (grammar.value w h) = upon _ (marked see.Equals w) (ok.reads _ _ _ h)
 
-  reads_optional_value : {e : Option Expr} {a r : List Token} → IsOption (same see.Equals) (IsValue E P) e a r → Reaches (optional_value n) [] a e r
+  reads_optional_value : {e : Option Expr} {a r : List Token} → IsOption (same see.Equals) (IsValue E P) e a r → Reaches (optional_value exprs patterns) [] a e r
   unfolding optional_value some_value
   reads_optional_value (phrase.absent h) = loose (without (same see.Equals) None h)
   reads_optional_value (phrase.present {x = e} {a = a} {r = r} h) =
       let g = map (λ e. Some e) (reads_value h) in
-      record { held = g.held; left = g.left; pending = g.pending; whole = g.whole; reads = ap (λ (b : Bool). (if b then (some_value n) else pure None) ([], a)) (front_value e a r h) ∙ g.reads }
+      record { held = g.held; left = g.left; pending = g.pending; whole = g.whole; reads = ap (λ (b : Bool). (if b then (some_value exprs patterns) else pure None) ([], a)) (front_value e a r h) ∙ g.reads }
 
-  reads_def : {d : Def} {a r : List Token} → IsDef E P d a r → Reaches (definition n) [] a d r
+  reads_def : {d : Def} {a r : List Token} → IsDef E P d a r → Reaches (definition exprs patterns) [] a d r
   unfolding definition val_def var_def lazy_def def_def
   reads_def (grammar.val w h t e) = left _ (same see.Val) (front (same see.Val) see.Val true refl w) (upon _ (marked see.Val w) (upon _ (reads_name h) (upon _ (reads_optional_type t) (map _ (reads_optional_value e)))))
   reads_def (grammar.var w h t e) = right _ (same see.Val) (front (same see.Val) see.Var false refl w) (left _ (same see.Var) (front (same see.Var) see.Var true refl w) (upon _ (marked see.Var w) (upon _ (reads_name h) (upon _ (reads_optional_type t) (map _ (reads_value e))))))
@@ -301,29 +298,29 @@ module _ (n : ℕ) where
 
   front_member : (x : Member) (a r : List Token) → IsMember E P x a r → begins_member (ahead a) ≡ true
   front_member x a r (grammar.definition g k) = or_here (begins_definition (ahead a)) (begins_expr (ahead a)) (front_modified g k)
-  front_member x a r (grammar.expression {e = e} h) = or_there (begins_definition (ahead a)) (begins_expr (ahead a)) (front_expr n e a r h)
+  front_member x a r (grammar.expression {e = e} h) = or_there (begins_definition (ahead a)) (begins_expr (ahead a)) (ok.fronts e a r h)
 
-  reads_member : (x : Member) (a r : List Token) → IsMember E P x a r → Reaches (member n) [] a x r
+  reads_member : (x : Member) (a r : List Token) → IsMember E P x a r → Reaches (member exprs patterns) [] a x r
   unfolding member member_def member_expr
   reads_member x a r (grammar.definition g k) = left _ begins_definition (front_modified g k) (upon _ (reads_modifiers g) (map _ (reads_def k)))
-  reads_member x a r (grammar.expression {e = e} h) = right _ begins_definition (no_definition (ahead a) (front_expr n e a r h)) (map _ (reads_expr n e a r h))
+  reads_member x a r (grammar.expression {e = e} h) = right _ begins_definition (no_definition (ahead a) (ok.fronts e a r h)) (map _ (ok.reads e a r h))
 
-  reads_members : (xs : List Member) (a r : List Token) → IsSeq begins_member member_ends_in_new (IsMember E P) true xs a r → (last : Bool) × Lands (members n) [] a (last, xs) r
+  reads_members : (xs : List Member) (a r : List Token) → IsSeq begins_member member_ends_in_new (IsMember E P) true xs a r → (last : Bool) × Lands (members exprs patterns) [] a (last, xs) r
   unfolding members body_item member_apart member_item
-  reads_members xs a r k = seq_reads begins_member member_ends_in_new (IsMember E P) (member n) reads_member front_member no_separator (member_none n) (eats_of n (good_body_item n) refl) xs a r k
+  reads_members xs a r k = seq_reads begins_member member_ends_in_new (IsMember E P) (member exprs patterns) reads_member front_member no_separator (member_none 0) items.member xs a r k
 
   -- ---- templates
 
-  reads_braces : {s t : Span} {xs : List Member} {b c d r : List Token} → IsWord see.OpenBrace s b c → IsSeq begins_member member_ends_in_new (IsMember E P) true xs c d → IsWord see.CloseBrace t d r → Lands (braces n) [] b (xs, t) r
+  reads_braces : {s t : Span} {xs : List Member} {b c d r : List Token} → IsWord see.OpenBrace s b c → IsSeq begins_member member_ends_in_new (IsMember E P) true xs c d → IsWord see.CloseBrace t d r → Lands (braces exprs patterns) [] b (xs, t) r
   unfolding braces
   reads_braces {xs = xs} {c = c} {d = d} w k z = upon_clean _ (marked see.OpenBrace w) (upon_clean _ (reads_members xs c d k).1 (map_clean _ (marked see.CloseBrace z)))
 
-  reads_some_body : {s t : Span} {xs : List Member} {d b c e r : List Token} → IsWord see.OpenBrace s b c → IsSeq begins_member member_ends_in_new (IsMember E P) true xs c e → IsWord see.CloseBrace t e r → Lands (some_body n) d b (Some (xs, t)) r
+  reads_some_body : {s t : Span} {xs : List Member} {d b c e r : List Token} → IsWord see.OpenBrace s b c → IsSeq begins_member member_ends_in_new (IsMember E P) true xs c e → IsWord see.CloseBrace t e r → Lands (some_body exprs patterns) d b (Some (xs, t)) r
   unfolding some_body absorb
   reads_some_body w k z = let g = map_clean (λ b. Some b) (reads_braces w k z) in record { reads = g.reads }
 
   -- what stands where no body follows: another token, a line end with another token behind it, or nothing
-  no_body_reads : (a : List Token) → body_follows a ≡ false → Reaches (body n) [] a None a
+  no_body_reads : (a : List Token) → body_follows a ≡ false → Reaches (body exprs patterns) [] a None a
   unfolding body behind_line
   no_body_reads [] h = record { held = []; left = []; pending = none_held; whole = refl; reads = refl }
   no_body_reads (t ∷ b) h = elim (decide (same see.OpenBrace (sort t))) [
@@ -335,17 +332,17 @@ module _ (n : ℕ) where
             left = b;
             pending = line_held (are_same see.Newline (sort t) l);
             whole = refl;
-            reads = ap (λ (v : Bool). (if v then some_body n else if same see.Newline (sort t) then hold (behind_line n) else pure None) ([], t ∷ b)) i
-                ∙ ap (λ (v : Bool). (if v then hold (behind_line n) else pure None) ([], t ∷ b)) l
-                ∙ ap (λ (v : Bool). (if v then some_body n else pure None) (t ∷ [], b)) j;
+            reads = ap (λ (v : Bool). (if v then some_body exprs patterns else if same see.Newline (sort t) then hold (behind_line exprs patterns) else pure None) ([], t ∷ b)) i
+                ∙ ap (λ (v : Bool). (if v then hold (behind_line exprs patterns) else pure None) ([], t ∷ b)) l
+                ∙ ap (λ (v : Bool). (if v then some_body exprs patterns else pure None) (t ∷ [], b)) j;
           })
       | inr l ↦ record {
         held = [];
         left = t ∷ b;
         pending = none_held;
         whole = refl;
-        reads = ap (λ (v : Bool). (if v then some_body n else if same see.Newline (sort t) then hold (behind_line n) else pure None) ([], t ∷ b)) i
-            ∙ ap (λ (v : Bool). (if v then hold (behind_line n) else pure None) ([], t ∷ b)) l;
+        reads = ap (λ (v : Bool). (if v then some_body exprs patterns else if same see.Newline (sort t) then hold (behind_line exprs patterns) else pure None) ([], t ∷ b)) i
+            ∙ ap (λ (v : Bool). (if v then hold (behind_line exprs patterns) else pure None) ([], t ∷ b)) l;
       }
     ]
   ]
@@ -359,39 +356,39 @@ module _ (n : ℕ) where
       behind_is true l q i h = absurd cc
       behind_is false false q i h = absurd cc
 
-  brace_body : {t : Token} {s e : Span} {xs : List Member} {b c d r : List Token} → sort t ≡ see.Newline → IsWord see.OpenBrace s b c → IsSeq begins_member member_ends_in_new (IsMember E P) true xs c d → IsWord see.CloseBrace e d r → Lands (body n) [] (t ∷ b) (Some (xs, e)) r
+  brace_body : {t : Token} {s e : Span} {xs : List Member} {b c d r : List Token} → sort t ≡ see.Newline → IsWord see.OpenBrace s b c → IsSeq begins_member member_ends_in_new (IsMember E P) true xs c d → IsWord see.CloseBrace e d r → Lands (body exprs patterns) [] (t ∷ b) (Some (xs, e)) r
   unfolding body behind_line
   brace_body {t = t} {b = b} i w k z = record {
-    reads = ap (λ (o : Ahead). (if same see.OpenBrace o then some_body n else if same see.Newline o then hold (behind_line n) else pure None) ([], t ∷ b)) i
-        ∙ ap (λ (v : Bool). (if v then some_body n else pure None) (t ∷ [], b)) (front (same see.OpenBrace) see.OpenBrace true refl w)
+    reads = ap (λ (o : Ahead). (if same see.OpenBrace o then some_body exprs patterns else if same see.Newline o then hold (behind_line exprs patterns) else pure None) ([], t ∷ b)) i
+        ∙ ap (λ (v : Bool). (if v then some_body exprs patterns else pure None) (t ∷ [], b)) (front (same see.OpenBrace) see.OpenBrace true refl w)
         ∙ (reads_some_body {d = t ∷ []} w k z).reads;
   }
 
-  reads_body : {x : Option (List Member × Span)} {a r : List Token} → IsBody E P x a r → Reaches (body n) [] a x r
+  reads_body : {x : Option (List Member × Span)} {a r : List Token} → IsBody E P x a r → Reaches (body exprs patterns) [] a x r
   unfolding body
   reads_body (grammar.no_body {r = r} h) = no_body_reads r h
-  reads_body (grammar.body {b = b} phrase.no_nl w k z) = loose (record { reads = ap (λ (v : Bool). (if v then some_body n else if if_clean (same see.Newline) [] (ahead b) then hold (behind_line n) else pure None) ([], b)) (front (same see.OpenBrace) see.OpenBrace true refl w) ∙ (reads_some_body {d = []} w k z).reads })
+  reads_body (grammar.body {b = b} phrase.no_nl w k z) = loose (record { reads = ap (λ (v : Bool). (if v then some_body exprs patterns else if if_clean (same see.Newline) [] (ahead b) then hold (behind_line exprs patterns) else pure None) ([], b)) (front (same see.OpenBrace) see.OpenBrace true refl w) ∙ (reads_some_body {d = []} w k z).reads })
   reads_body (grammar.body (phrase.one_nl {s = q} (phrase.token {t = t} {r = b} i)) w k z) = loose (brace_body {t = t} (word_ahead {what = see.Newline} {s = q} {a = t ∷ b} {r = b} (phrase.token i)) w k z)
 
   front_args : (x : ParArgs) (a r : List Token) → P x a r → same see.OpenParen (ahead a) ≡ true
   front_args x a r (inner.par_args w k) = front (same see.OpenParen) see.OpenParen true refl w
 
-  reads_some_args : (x : ParArgs) (a r : List Token) → P x a r → Lands (some_args n) [] a (Some x) r
+  reads_some_args : (x : ParArgs) (a r : List Token) → P x a r → Lands (some_args exprs patterns) [] a (Some x) r
   unfolding some_args
-  reads_some_args x a r h = map_clean _ (reads_par_args n (reads_expr n) h)
+  reads_some_args x a r h = map_clean _ (reads_par_args ok h)
 
-  reads_optional_args : {x : Option ParArgs} {a r : List Token} → IsOption (same see.OpenParen) P x a r → Lands (optional_args n) [] a x r
+  reads_optional_args : {x : Option ParArgs} {a r : List Token} → IsOption (same see.OpenParen) P x a r → Lands (optional_args exprs patterns) [] a x r
   unfolding optional_args
   reads_optional_args h = optional_clean (same see.OpenParen) front_args reads_some_args h
 
   front_parents : (p : Parents) (a r : List Token) → IsParents E P p a r → same see.Extends (ahead a) ≡ true
   front_parents p a r (grammar.parents w h q k) = front (same see.Extends) see.Extends true refl w
 
-  reads_parents : (p : Parents) (a r : List Token) → IsParents E P p a r → Lands (parents n) [] a (Some p) r
+  reads_parents : (p : Parents) (a r : List Token) → IsParents E P p a r → Lands (parents exprs patterns) [] a (Some p) r
   unfolding parents
   reads_parents p a r (grammar.parents w h q k) = upon_clean _ (marked see.Extends w) (upon_clean _ (reads_name h) (upon_clean _ (reads_optional_args q) (map_clean _ (reads_traits k))))
 
-  reads_template : (s : Span) {t : Template × Span} {a r : List Token} → IsTemplate E P s t a r → Reaches (template n s) [] a t r
+  reads_template : (s : Span) {t : Template × Span} {a r : List Token} → IsTemplate E P s t a r → Reaches (template exprs patterns s) [] a t r
   unfolding template optional_parents
   reads_template s (grammar.template h k) = upon _ (optional_clean (same see.Extends) front_parents reads_parents h) (map _ (reads_body k))
 
@@ -407,15 +404,15 @@ module _ (n : ℕ) where
 
   reads_class_def : (ms : List ClassModifier) {c : Option Span} {s : Span} {x : Ident} {ps : Option Params} {t : Template × Span} {a1 a2 a3 a4 a5 r : List Token}
       → IsOption (same see.Case) (IsWord see.Case) c a1 a2 → IsWord see.Class s a2 a3 → IsName x a3 a4 → IsOption (same see.OpenParen) IsClassParams ps a4 a5 → IsTemplate E P (span_or params_span x.span ps) t a5 r
-      → Reaches (class_def n ms) [] a1 (class_tree ms c s x ps t) r
+      → Reaches (class_def exprs patterns ms) [] a1 (class_tree ms c s x ps t) r
   unfolding class_def
   reads_class_def ms g w h k t = upon _ (reads_optional_case g) (upon _ (marked see.Class w) (upon _ (reads_name h) (upon _ (reads_optional_class_params k) (map _ (reads_template _ t)))))
 
-  reads_trait_def : (ms : List ClassModifier) {s : Span} {x : Ident} {t : Template × Span} {a b c r : List Token} → IsWord see.Trait s a b → IsName x b c → IsTemplate E P x.span t c r → Reaches (trait_def n ms) [] a (trait_tree ms s x t) r
+  reads_trait_def : (ms : List ClassModifier) {s : Span} {x : Ident} {t : Template × Span} {a b c r : List Token} → IsWord see.Trait s a b → IsName x b c → IsTemplate E P x.span t c r → Reaches (trait_def exprs patterns ms) [] a (trait_tree ms s x t) r
   unfolding trait_def
   reads_trait_def ms w h t = upon _ (marked see.Trait w) (upon _ (reads_name h) (map _ (reads_template _ t)))
 
-  reads_object_def : {s : Span} {x : Ident} {t : Template × Span} {a b c r : List Token} → IsWord see.Object s a b → IsName x b c → IsTemplate E P x.span t c r → Reaches (object_def n) [] a (object_tree s x t) r
+  reads_object_def : {s : Span} {x : Ident} {t : Template × Span} {a b c r : List Token} → IsWord see.Object s a b → IsName x b c → IsTemplate E P x.span t c r → Reaches (object_def exprs patterns) [] a (object_tree s x t) r
   unfolding object_def
   reads_object_def w h t = upon _ (marked see.Object w) (upon _ (reads_name h) (map _ (reads_template _ t)))
 
@@ -438,7 +435,7 @@ module _ (n : ℕ) where
   front_top d a r (grammar.sealed_trait q w h t) = front begins_top see.Sealed true refl q
   front_top d a r (grammar.object w h t) = front begins_top see.Object true refl w
 
-  reads_top : (d : TopDef) (a r : List Token) → IsTopDef E P d a r → Reaches (top_def n) [] a d r
+  reads_top : (d : TopDef) (a r : List Token) → IsTopDef E P d a r → Reaches (top_def exprs patterns) [] a d r
   unfolding top_def behind_modifiers
   reads_top d a r (grammar.class {ms = ms} {a1 = a1} m g w x k t) = let i = no_words ms (ahead a1) (front_class g w) in
       upon _ (reads_class_words m) (right _ (at_trait ms) i.0 (right _ (at_object ms) i.1 (reads_class_def ms g w x k t)))
@@ -448,17 +445,17 @@ module _ (n : ℕ) where
 
   -- ---- files
 
-  reads_top_defs : (xs : List TopDef) (a r : List Token) → IsSeq begins_top never (IsTopDef E P) true xs a r → (last : Bool) × Lands (top_defs n) [] a (last, xs) r
+  reads_top_defs : (xs : List TopDef) (a r : List Token) → IsSeq begins_top never (IsTopDef E P) true xs a r → (last : Bool) × Lands (top_defs exprs patterns) [] a (last, xs) r
   unfolding top_defs unit_item top_apart top_item
-  reads_top_defs xs a r k = seq_reads begins_top never (IsTopDef E P) (top_def n) reads_top front_top no_separator_top (top_none n) (eats_of n (good_unit_item n) refl) xs a r k
+  reads_top_defs xs a r k = seq_reads begins_top never (IsTopDef E P) (top_def exprs patterns) reads_top front_top no_separator_top (top_none 0) items.top xs a r k
 
   -- its definitions, with nothing left
-  pub reads_all : (tokens : List Token) (tree : file.Unit) → Derives n tree tokens → (last : Bool) × (xs : List TopDef) × (tree ≡ unit_tree xs) × (top_defs n ([], tokens) ≡ ok_of (last, xs) [] [])
+  pub reads_all : (tokens : List Token) (tree : file.Unit) → IsUnit E P tree tokens → (last : Bool) × (xs : List TopDef) × (tree ≡ unit_tree xs) × (top_defs exprs patterns ([], tokens) ≡ ok_of (last, xs) [] [])
   reads_all tokens tree (grammar.unit {xs = xs} k) = let g = reads_top_defs xs tokens [] k in (g.0, xs, refl, g.1.reads)
 
-pub ends_there : (n : ℕ) (tokens : List Token) (s : Bool × List TopDef) → top_defs n ([], tokens) ≡ ok_of s [] [] → unit n ([], tokens) ≡ ok_of (unit_tree s.1) [] []
-unfolding unit over
-ends_there n tokens s e = ap (λ (o : Outcome (Bool × List TopDef)). and_then o (λ s. over >> pure (unit_tree s.1))) e
+  pub ends_there : (tokens : List Token) (s : Bool × List TopDef) → top_defs exprs patterns ([], tokens) ≡ ok_of s [] [] → unit exprs patterns ([], tokens) ≡ ok_of (unit_tree s.1) [] []
+  unfolding unit over
+  ends_there tokens s e = ap (λ (o : Outcome (Bool × List TopDef)). and_then o (λ s. over >> pure (unit_tree s.1))) e
 
-pub reads_file : (n : ℕ) (tokens : List Token) (tree : file.Unit) → Derives n tree tokens → unit n ([], tokens) ≡ ok_of tree [] []
-reads_file n tokens tree h = let g = reads_all n tokens tree h in ends_there n tokens (g.0, g.1) g.3 ∙ ap (λ (z : file.Unit). ok_of z [] []) (sym g.2)
+  pub reads_file : (tokens : List Token) (tree : file.Unit) → IsUnit E P tree tokens → unit exprs patterns ([], tokens) ≡ ok_of tree [] []
+  reads_file tokens tree h = let g = reads_all tokens tree h in ends_there tokens (g.0, g.1) g.3 ∙ ap (λ (z : file.Unit). ok_of z [] []) (sym g.2)

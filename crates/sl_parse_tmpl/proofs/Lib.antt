@@ -4,6 +4,8 @@ pub mod Within
 pub mod Lists
 pub mod SeqSound
 pub mod SeqComplete
+pub mod Items
 pub mod Sound
 pub mod Complete
+pub mod Tied
 pub mod Refused

@@ -12,28 +12,26 @@ use Rattle.sl_ast.specs.declared.unit.ClassModifier.{ClassModifier}
 use Rattle.sl_ast.specs.declared.unit.ClassModifier.TheVariants as words
 use Rattle.sl_ast.specs.declared.unit.ParamMember.{ParamMember}
 use Rattle.sl_ast.specs.declared.unit.Unit as file
+use Rattle.sl_ast.specs.declared.pattern.Pattern.{Pattern}
 use Rattle.sl_parse_expr.specs.declared.ahead.Ahead.{Ahead}
 use Rattle.sl_parse_expr.specs.declared.ahead.Ahead.TheVariants as see
 use Rattle.sl_parse_expr.specs.Ahead.{sort, same}
 use Rattle.sl_parse_expr.specs.Starts.{begins_binding}
 use Rattle.sl_parse_expr.specs.Tokens.{binding_of}
 use Rattle.sl_parse_expr.specs.Spans.{span_or}
-use Rattle.sl_parse_expr.specs.Reading.{◌>>◌, pure, word, ahead}
-use Rattle.sl_parse_expr.specs.Rules.{binding, next_arg, more_args, some_args, no_args, par_args}
-use Rattle.sl_parse_expr.specs.PatternRules.{pattern}
-use Rattle.sl_parse_expr.specs.Levels.{expr}
+use Rattle.sl_parse_expr.specs.Reading.{Reader, ◌>>◌, pure, word, ahead}
+use Rattle.sl_parse_expr.specs.Rules.{binding}
 use Rattle.sl_parse_expr.specs.Phrases.{IsOne, IsWord, IsMore, IsListed, IsOption, IsLine, IsSeq, none_held, line_held}
 use Rattle.sl_parse_expr.specs.Phrases as phrase
 use Rattle.sl_parse_expr.specs.Grammar.{IsName, IsTyped, IsParArgs, IsExpr, IsPattern}
 use Rattle.sl_parse_expr.specs.Grammar as inner
 use Rattle.sl_parse_expr.proofs.Theory.{Held, ok_of, bind_ok, ok_0}
-use Rattle.sl_parse_expr.proofs.Level.{level, pattern_level}
-use Rattle.sl_parse_expr.proofs.Good.{good_next_arg}
 use Rattle.sl_parse_expr.proofs.Loops.{Eats, eats_of}
 use Rattle.sl_parse_expr.proofs.Fronts.{are_same}
 use Rattle.sl_parse_expr.proofs.Gives.{Gives, Clean, Loose, give, looser, as_clean, as_loose, next, upon, map_clean, map_loose, single, marked, either, both, branch_by, holding, looked, absorbed, perhaps, perhaps_clean, listing, IsNext, behind, one_behind}
 use Rattle.sl_parse_expr.proofs.PatternSound.{name_is, type_is}
-use Rattle.sl_parse_expr.proofs.Sound.{expr_is}
+use Rattle.sl_parse_expr.proofs.Inside.{SoundExprs}
+use Rattle.sl_parse_expr.proofs.Sound.{par_args_is}
 use Rattle.sl_parse_tmpl.specs.Words.{modifier_of, class_modifier_of, class_modifier_by, is_modifier, is_class_modifier, begins_definition, begins_member, begins_top}
 use Rattle.sl_parse_tmpl.specs.LastNew.{member_ends_in_new, never}
 use Rattle.sl_parse_tmpl.specs.Trees.{params_span, param_member, class_param_tree, trait_tree, object_tree, unit_tree}
@@ -41,9 +39,10 @@ use Rattle.sl_parse_tmpl.specs.Rules.{typed, some_type, optional_type, param, ne
 use Rattle.sl_parse_tmpl.specs.Rules as rules_
 use Rattle.sl_parse_tmpl.specs.Grammar.{IsRun, IsParam, IsParams, IsClassParam, IsClassParams, IsValue, IsDef, IsMember, IsBody, IsParents, IsTemplate, IsTopDef, IsUnit, Derives, body_follows}
 use Rattle.sl_parse_tmpl.specs.Grammar as grammar
-use Rattle.sl_parse_tmpl.proofs.Good.{good_next_param, good_next_class_param, good_modifier, good_class_modifier, good_next_trait, good_body_item, member_none, good_unit_item, top_none}
+use Rattle.sl_parse_tmpl.proofs.Good.{good_next_param, good_next_class_param, good_modifier, good_class_modifier, good_next_trait, member_none, top_none}
 use Rattle.sl_parse_tmpl.proofs.Lists.{list_is}
 use Rattle.sl_parse_tmpl.proofs.SeqSound.{seq_is}
+use Rattle.sl_parse_tmpl.proofs.Items.{FileItems}
 
 -- ---- types and parameters
 
@@ -182,129 +181,100 @@ optional_case_is : (a : List Token) → Gives optional_case [] a (Clean (λ c r.
 unfolding optional_case some_case
 optional_case_is a = perhaps_clean (same see.Case) None (map_clean _ (marked see.Case [] a) (λ s r k. phrase.present k)) (λ h. phrase.absent h)
 
--- ---- arguments
-
-module _ (n : ℕ) where
-  next_arg_is : (d : Held) (a : List Token) → Gives (next_arg (expr n) (pattern n)) d a (Loose (λ x r. IsNext see.Comma (IsExpr n) x (d ++ a) r))
-  unfolding next_arg
-  next_arg_is d a = upon (marked see.Comma d a) (λ s b h. as_loose (expr_is n [] b) (λ x r k. behind h k))
-
-  next_arg_eats : Eats (next_arg (expr n) (pattern n))
-  next_arg_eats = eats_of n (good_next_arg n expr pattern (level n) (pattern_level n)) refl
-
-  some_args_is : (a : List Token) → Gives (some_args (expr n) (pattern n)) [] a (Clean (λ xs r. IsListed (IsExpr n) xs.0 xs.1 a r))
-  unfolding some_args more_args
-  some_args_is a = next (expr_is n [] a) (λ x e b h. next (listing (same see.Comma) (next_arg (expr n) (pattern n)) refl refl refl next_arg_eats (IsNext see.Comma (IsExpr n)) (IsMore see.Comma (IsExpr n))
-      (λ ys c. (s : Span) (r : List Token) → IsWord see.CloseParen s c r → IsListed (IsExpr n) ys s a r) (λ r m. phrase.no_more m) (one_behind see.Comma (IsExpr n)) next_arg_is (x ∷ []) e b (h.held, λ zs c m s r w. phrase.some_listed h.is m w))
-      (λ ys e2 c k. map_clean _ (marked see.CloseParen e2 c) (λ s r w. k.is s r w)))
-
-  no_args_is : (a : List Token) → Gives (no_args (expr n) (pattern n)) [] a (Clean (λ xs r. IsListed (IsExpr n) xs.0 xs.1 a r))
-  unfolding no_args
-  no_args_is a = map_clean _ (marked see.CloseParen [] a) (λ s r w. phrase.none_listed w)
-
-  par_args_is : (a : List Token) → Gives (par_args (expr n) (pattern n)) [] a (Clean (λ x r. IsParArgs (IsExpr n) (IsPattern n) x a r))
-  unfolding par_args
-  par_args_is a = upon (marked see.OpenParen [] a) (λ s b h. map_clean _ (both (same see.CloseParen) (no_args_is b) (some_args_is b)) (λ xs r k. inner.par_args h k))
-
+module _ {exprs : Reader Expr} {patterns : Reader Pattern} {E : Expr → List Token → List Token → Type 0} {Q : Pattern → List Token → List Token → Type 0} (ok : SoundExprs exprs patterns E Q) (items : FileItems exprs patterns) where
   -- ---- definitions
 
-  abbrev E : Expr → List Token → List Token → Type 0
-  E = IsExpr n
-
   abbrev P : ParArgs → List Token → List Token → Type 0
-  P = IsParArgs (IsExpr n) (IsPattern n)
+  P = IsParArgs E Q
 
-  value_is : (a : List Token) → Gives (value n) [] a (Loose (λ e r. IsValue E P e a r))
+  value_is : (a : List Token) → Gives (value exprs patterns) [] a (Loose (λ e r. IsValue E P e a r))
   unfolding value
-  value_is a = upon (marked see.Equals [] a) (λ s b h. as_loose (expr_is n [] b) (λ e r k. grammar.value h k))
+  value_is a = upon (marked see.Equals [] a) (λ s b h. as_loose (ok.is [] b) (λ e r k. grammar.value h k))
 
-  optional_value_is : (a : List Token) → Gives (optional_value n) [] a (Loose (λ e r. IsOption (same see.Equals) (IsValue E P) e a r))
+  optional_value_is : (a : List Token) → Gives (optional_value exprs patterns) [] a (Loose (λ e r. IsOption (same see.Equals) (IsValue E P) e a r))
   unfolding optional_value some_value
   optional_value_is a = perhaps (same see.Equals) None none_held refl refl (map_loose _ (value_is a) (λ e r k. phrase.present k)) (λ h. phrase.absent h)
 
-  val_def_is : (a : List Token) → Gives (val_def n) [] a (Loose (λ d r. IsDef E P d a r))
+  val_def_is : (a : List Token) → Gives (val_def exprs patterns) [] a (Loose (λ d r. IsDef E P d a r))
   unfolding val_def
   val_def_is a = upon (marked see.Val [] a) (λ s b h. upon (name_is [] b) (λ x c i. upon (optional_type_is c) (λ t d j. map_loose _ (optional_value_is d) (λ e r k. grammar.val h i j k))))
 
-  var_def_is : (a : List Token) → Gives (var_def n) [] a (Loose (λ d r. IsDef E P d a r))
+  var_def_is : (a : List Token) → Gives (var_def exprs patterns) [] a (Loose (λ d r. IsDef E P d a r))
   unfolding var_def
   var_def_is a = upon (marked see.Var [] a) (λ s b h. upon (name_is [] b) (λ x c i. upon (optional_type_is c) (λ t d j. map_loose _ (value_is d) (λ e r k. grammar.var h i j k))))
 
-  lazy_def_is : (a : List Token) → Gives (lazy_def n) [] a (Loose (λ d r. IsDef E P d a r))
+  lazy_def_is : (a : List Token) → Gives (lazy_def exprs patterns) [] a (Loose (λ d r. IsDef E P d a r))
   unfolding lazy_def
   lazy_def_is a = upon (marked see.Lazy [] a) (λ s a1 g. upon (marked see.Val [] a1) (λ v b h. upon (name_is [] b) (λ x c i. upon (optional_type_is c) (λ t d j. map_loose _ (value_is d) (λ e r k. grammar.«lazy» g h i j k)))))
 
-  def_def_is : (a : List Token) → Gives (def_def n) [] a (Loose (λ d r. IsDef E P d a r))
+  def_def_is : (a : List Token) → Gives (def_def exprs patterns) [] a (Loose (λ d r. IsDef E P d a r))
   unfolding def_def
   def_def_is a = upon (marked see.Def [] a) (λ s b h. upon (name_is [] b) (λ x c i. upon (optional_params_is c) (λ ps c1 l. upon (typed_is c1) (λ t d j. map_loose _ (optional_value_is d) (λ e r k. grammar.def h i l j k)))))
 
-  definition_is : (a : List Token) → Gives (definition n) [] a (Loose (λ d r. IsDef E P d a r))
+  definition_is : (a : List Token) → Gives (definition exprs patterns) [] a (Loose (λ d r. IsDef E P d a r))
   unfolding definition
   definition_is a = both (same see.Val) (val_def_is a) (both (same see.Var) (var_def_is a) (both (same see.Lazy) (lazy_def_is a) (def_def_is a)))
 
   -- ---- members
 
-  member_def_is : (a : List Token) → Gives (member_def n) [] a (Loose (λ x r. IsMember E P x a r))
+  member_def_is : (a : List Token) → Gives (member_def exprs patterns) [] a (Loose (λ x r. IsMember E P x a r))
   unfolding member_def
   member_def_is a = upon (modifiers_is a) (λ ms b h. map_loose _ (definition_is b) (λ d r k. grammar.definition h k))
 
-  member_expr_is : (a : List Token) → Gives (member_expr n) [] a (Loose (λ x r. IsMember E P x a r))
+  member_expr_is : (a : List Token) → Gives (member_expr exprs patterns) [] a (Loose (λ x r. IsMember E P x a r))
   unfolding member_expr
-  member_expr_is a = map_loose _ (expr_is n [] a) (λ e r k. grammar.expression k)
+  member_expr_is a = map_loose _ (ok.is [] a) (λ e r k. grammar.expression k)
 
-  member_is : (a : List Token) → Gives (member n) [] a (Loose (λ x r. IsMember E P x a r))
+  member_is : (a : List Token) → Gives (member exprs patterns) [] a (Loose (λ x r. IsMember E P x a r))
   unfolding member
   member_is a = both begins_definition (member_def_is a) (member_expr_is a)
 
-  body_item_eats : Eats (body_item n)
-  body_item_eats = eats_of n (good_body_item n) refl
-
-  members_is : (a : List Token) → Gives (members n) [] a (Clean (λ w r. IsSeq begins_member member_ends_in_new (IsMember E P) true w.1 a r))
+  members_is : (a : List Token) → Gives (members exprs patterns) [] a (Clean (λ w r. IsSeq begins_member member_ends_in_new (IsMember E P) true w.1 a r))
   unfolding members body_item member_apart member_item
-  members_is a = seq_is begins_member member_ends_in_new (IsMember E P) (member n) member_is (member_none n) body_item_eats a
+  members_is a = seq_is begins_member member_ends_in_new (IsMember E P) (member exprs patterns) member_is (member_none 0) items.member a
 
   -- ---- templates
 
-  braces_is : (m b : List Token) → IsLine m b → Gives (braces n) [] b (Clean (λ x r. IsBody E P (Some x) m r))
+  braces_is : (m b : List Token) → IsLine m b → Gives (braces exprs patterns) [] b (Clean (λ x r. IsBody E P (Some x) m r))
   unfolding braces
   braces_is m b line = upon (marked see.OpenBrace [] b) (λ s c h. upon (members_is c) (λ w d k. map_clean _ (marked see.CloseBrace [] d) (λ t r z. grammar.body line h k z)))
 
-  some_body_is : (d : Held) (b m : List Token) → IsLine m b → Gives (some_body n) d b (Loose (λ c r. IsBody E P c m r))
+  some_body_is : (d : Held) (b m : List Token) → IsLine m b → Gives (some_body exprs patterns) d b (Loose (λ c r. IsBody E P c m r))
   unfolding some_body
   some_body_is d b m line = looser (absorbed (map_clean _ (braces_is m b line) (λ x r k. k)))
 
-  behind_line_is : (t : Token) (b : List Token) → sort t ≡ see.Newline → Gives (behind_line n) (t ∷ []) b (Loose (λ c r. IsBody E P c (t ∷ b) r))
+  behind_line_is : (t : Token) (b : List Token) → sort t ≡ see.Newline → Gives (behind_line exprs patterns) (t ∷ []) b (Loose (λ c r. IsBody E P c (t ∷ b) r))
   unfolding behind_line
   behind_line_is t b i = either (λ e o. same see.OpenBrace o)
       (λ h. some_body_is (t ∷ []) b (t ∷ b) (phrase.one_nl {s = t.span} (phrase.token (rw i refl))))
       (λ h. give None (record { held = line_held i; is = grammar.no_body (rw i (rw h refl)) }))
 
-  body_is : (a : List Token) → Gives (body n) [] a (Loose (λ c r. IsBody E P c a r))
+  body_is : (a : List Token) → Gives (body exprs patterns) [] a (Loose (λ c r. IsBody E P c a r))
   unfolding body
-  body_is [] = looked (body_by n) (give None (record { held = none_held; is = grammar.no_body refl }))
-  body_is (t ∷ b) = looked (body_by n) (branch_by (same see.OpenBrace (sort t))
+  body_is [] = looked (body_by exprs patterns) (give None (record { held = none_held; is = grammar.no_body refl }))
+  body_is (t ∷ b) = looked (body_by exprs patterns) (branch_by (same see.OpenBrace (sort t))
       (λ h. some_body_is [] (t ∷ b) (t ∷ b) phrase.no_nl)
       (λ h. branch_by (same see.Newline (sort t))
       (λ l. holding (behind_line_is t b (are_same see.Newline (sort t) l)))
       (λ l. give None (record { held = none_held; is = grammar.no_body (rw h (rw l refl)) }))))
 
-  optional_args_is : (a : List Token) → Gives (optional_args n) [] a (Clean (λ x r. IsOption (same see.OpenParen) P x a r))
+  optional_args_is : (a : List Token) → Gives (optional_args exprs patterns) [] a (Clean (λ x r. IsOption (same see.OpenParen) P x a r))
   unfolding optional_args rules_.some_args
-  optional_args_is a = perhaps_clean (same see.OpenParen) None (map_clean _ (par_args_is a) (λ x r k. phrase.present k)) (λ h. phrase.absent h)
+  optional_args_is a = perhaps_clean (same see.OpenParen) None (map_clean _ (par_args_is ok [] a) (λ x r k. phrase.present k)) (λ h. phrase.absent h)
 
-  optional_parents_is : (a : List Token) → Gives (optional_parents n) [] a (Clean (λ p r. IsOption (same see.Extends) (IsParents E P) p a r))
+  optional_parents_is : (a : List Token) → Gives (optional_parents exprs patterns) [] a (Clean (λ p r. IsOption (same see.Extends) (IsParents E P) p a r))
   unfolding optional_parents parents
   optional_parents_is a = perhaps_clean (same see.Extends) None
       (upon (marked see.Extends [] a) (λ s b h. upon (name_is [] b) (λ x c i. upon (optional_args_is c) (λ q d j. map_clean _ (traits_is d) (λ xs r k. phrase.present (grammar.parents h i j k))))))
       (λ h. phrase.absent h)
 
-  template_is : (s : Span) (a : List Token) → Gives (template n s) [] a (Loose (λ t r. IsTemplate E P s t a r))
+  template_is : (s : Span) (a : List Token) → Gives (template exprs patterns s) [] a (Loose (λ t r. IsTemplate E P s t a r))
   unfolding template
   template_is s a = upon (optional_parents_is a) (λ p b h. map_loose _ (body_is b) (λ c r k. grammar.template h k))
 
   -- ---- classes, traits, objects
 
-  class_def_is : (ms : List ClassModifier) (m a : List Token) → ClassWords ms m a → Gives (class_def n ms) [] a (Loose (λ d r. IsTopDef E P d m r))
+  class_def_is : (ms : List ClassModifier) (m a : List Token) → ClassWords ms m a → Gives (class_def exprs patterns ms) [] a (Loose (λ d r. IsTopDef E P d m r))
   unfolding class_def
   class_def_is ms m a w = upon (optional_case_is a) (λ c a1 g. upon (marked see.Class [] a1) (λ s b h. upon (name_is [] b) (λ x b1 i. upon (optional_class_params_is b1) (λ ps b2 j. map_loose _ (template_is (span_or params_span x.span ps) b2) (λ t r k. grammar.class w g h i j k)))))
 
@@ -330,11 +300,11 @@ module _ (n : ℕ) where
   trait_is (words.Sealed q ∷ u ∷ ms) m a w g s x t b c r h i k = absurd cc
   trait_is (words.Abstract q ∷ ms) m a w g s x t b c r h i k = absurd cc
 
-  trait_def_is : (ms : List ClassModifier) (m a : List Token) → ClassWords ms m a → may_be_trait ms ≡ true → Gives (trait_def n ms) [] a (Loose (λ d r. IsTopDef E P d m r))
+  trait_def_is : (ms : List ClassModifier) (m a : List Token) → ClassWords ms m a → may_be_trait ms ≡ true → Gives (trait_def exprs patterns ms) [] a (Loose (λ d r. IsTopDef E P d m r))
   unfolding trait_def
   trait_def_is ms m a w g = upon (marked see.Trait [] a) (λ s b h. upon (name_is [] b) (λ x c i. map_loose _ (template_is x.span c) (λ t r k. trait_is ms m a w g s x t b c r h i k)))
 
-  object_def_is : (ms : List ClassModifier) (m a : List Token) → ClassWords ms m a → may_be_object ms ≡ true → Gives (object_def n) [] a (Loose (λ d r. IsTopDef E P d m r))
+  object_def_is : (ms : List ClassModifier) (m a : List Token) → ClassWords ms m a → may_be_object ms ≡ true → Gives (object_def exprs patterns) [] a (Loose (λ d r. IsTopDef E P d m r))
   unfolding object_def
   object_def_is [] m a w g = upon (marked see.Object [] a) (λ s b h. upon (name_is [] b) (λ x c i. map_loose _ (template_is x.span c) (λ t r k. subst (λ (z : List Token). IsTopDef E P (object_tree s x t) z r) (sym (no_words m a w)) (grammar.object h i k))))
   object_def_is (u ∷ ms) m a w g = absurd cc
@@ -343,7 +313,7 @@ module _ (n : ℕ) where
   and_second true q h = h
   and_second false q h = absurd cc
 
-  behind_modifiers_is : (ms : List ClassModifier) (m a : List Token) → ClassWords ms m a → Gives (behind_modifiers n ms) [] a (Loose (λ d r. IsTopDef E P d m r))
+  behind_modifiers_is : (ms : List ClassModifier) (m a : List Token) → ClassWords ms m a → Gives (behind_modifiers exprs patterns ms) [] a (Loose (λ d r. IsTopDef E P d m r))
   unfolding behind_modifiers
   behind_modifiers_is ms m a w = either (λ e o. at_trait ms o)
       (λ h. trait_def_is ms m a w (and_second (same see.Trait (ahead a)) (may_be_trait ms) h))
@@ -351,28 +321,25 @@ module _ (n : ℕ) where
       (λ h. object_def_is ms m a w (and_second (same see.Object (ahead a)) (may_be_object ms) h))
       (λ _. class_def_is ms m a w))
 
-  top_def_is : (a : List Token) → Gives (top_def n) [] a (Loose (λ d r. IsTopDef E P d a r))
+  top_def_is : (a : List Token) → Gives (top_def exprs patterns) [] a (Loose (λ d r. IsTopDef E P d a r))
   unfolding top_def
   top_def_is a = upon (class_words_is a) (λ ms b h. behind_modifiers_is ms a b h)
 
   -- ---- files
 
-  unit_item_eats : Eats (unit_item n)
-  unit_item_eats = eats_of n (good_unit_item n) refl
-
-  pub top_defs_is : (a : List Token) → Gives (top_defs n) [] a (Clean (λ w r. IsSeq begins_top never (IsTopDef E P) true w.1 a r))
+  pub top_defs_is : (a : List Token) → Gives (top_defs exprs patterns) [] a (Clean (λ w r. IsSeq begins_top never (IsTopDef E P) true w.1 a r))
   unfolding top_defs unit_item top_apart top_item
-  top_defs_is a = seq_is begins_top never (IsTopDef E P) (top_def n) top_def_is (top_none n) unit_item_eats a
+  top_defs_is a = seq_is begins_top never (IsTopDef E P) (top_def exprs patterns) top_def_is (top_none 0) items.top a
 
   over_is : (held left d r : List Token) (x : Unit {0}) → over_by held left ≡ ok_of x d r → left ≡ []
   over_is [] [] d r x e = refl
   over_is [] (t ∷ ts) d r x e = absurd cc
   over_is (t ∷ held) left d r x e = absurd cc
 
-  pub file_is : (tokens : List Token) (tree : file.Unit) (d r : List Token) → unit n ([], tokens) ≡ ok_of tree d r → Derives n tree tokens
+  pub file_is : (tokens : List Token) (tree : file.Unit) (d r : List Token) → unit exprs patterns ([], tokens) ≡ ok_of tree d r → IsUnit E P tree tokens
   unfolding unit over
   file_is tokens tree d r e =
-      let o = bind_ok (top_defs n ([], tokens)) (λ s. over >> pure (unit_tree s.1)) tree d r e in
+      let o = bind_ok (top_defs exprs patterns ([], tokens)) (λ s. over >> pure (unit_tree s.1)) tree d r e in
       let p = bind_ok (over_by o.1 o.2) (λ _. pure (unit_tree o.0.1)) tree d r o.4 in
       let k = ((top_defs_is tokens).gives o.0 o.1 o.2 o.3).is in
       subst (λ (z : file.Unit). IsUnit E P z tokens) (ok_0 p.4) (grammar.unit (subst (λ (z : List Token). IsSeq begins_top never (IsTopDef E P) true o.0.1 tokens z) (over_is o.1 o.2 p.1 p.2 p.0 p.3) k))

@@ -9,7 +9,9 @@ use Rattle.sl_parse_expr.specs.Reading.{Stop, Outcome, and_then, ◌>>◌, pure,
 use Rattle.sl_parse_expr.proofs.Theory.{bind_err, err_is, ok_of}
 use Rattle.sl_parse_tmpl.specs.declared.fault.ParseFault.{ParseFault}
 use Rattle.sl_parse_tmpl.specs.Faults.{nesting, behind, next_span, fault_at, kind_of, tree_of, fault_of}
-use Rattle.sl_parse_tmpl.specs.Rules.{over, over_by, top_defs, unit}
+use Rattle.sl_parse_expr.specs.Levels.{expr}
+use Rattle.sl_parse_expr.specs.PatternRules.{pattern}
+use Rattle.sl_parse_tmpl.specs.Rules.{over, over_by, top_defs, unit_to, unit}
 use Rattle.sl_parse_tmpl.specs.Trees.{unit_tree}
 use Rattle.sl_parse_tmpl.proofs.Good.{good_top_defs}
 
@@ -34,10 +36,10 @@ over_at x [] [] s e = absurd cc
 over_at x [] (t ∷ ts) s e = ap (λ z. z.at) (err_is e)
 over_at x (t ∷ held) left s e = ap (λ z. z.at) (err_is e)
 
-left_at : (tokens : List Token) (s : Stop) → unit nesting ([], tokens) ≡ Err s → IsLeft tokens s.at
+left_at : (tokens : List Token) (s : Stop) → unit_to nesting ([], tokens) ≡ Err s → IsLeft tokens s.at
 unfolding unit over
-left_at tokens s e = by_part (bind_err (top_defs nesting ([], tokens)) (λ q. over >> pure (unit_tree q.1)) s e) where
-  by_part : (top_defs nesting ([], tokens) ≡ Err s) ⊎ ((q : Bool × List TopDef) × (held : List Token) × (left : List Token) × (top_defs nesting ([], tokens) ≡ ok_of q held left) × ((over >> pure (unit_tree q.1)) (held, left) ≡ Err s)) → IsLeft tokens s.at
+left_at tokens s e = by_part (bind_err (top_defs (expr nesting) (pattern nesting) ([], tokens)) (λ q. over >> pure (unit_tree q.1)) s e) where
+  by_part : (top_defs (expr nesting) (pattern nesting) ([], tokens) ≡ Err s) ⊎ ((q : Bool × List TopDef) × (held : List Token) × (left : List Token) × (top_defs (expr nesting) (pattern nesting) ([], tokens) ≡ ok_of q held left) × ((over >> pure (unit_tree q.1)) (held, left) ≡ Err s)) → IsLeft tokens s.at
   by_part (inl e) = let h = (good_top_defs nesting).fails [] tokens s e in (h.front, h.is)
   by_part (inr (q, held, left, e, f)) =
       let h = (good_top_defs nesting).takes [] tokens q held left e in
@@ -77,5 +79,5 @@ by_outcome n tokens fault (Err s) l e a =
     let h : fault_at tokens s.at (kind_of s.deep) ≡ fault = cc in
     subst (λ (z : ParseFault). z.span.from ≤ n) h (left_within n tokens s.at (l s refl) a)
 
-pub fault_within : (tokens : List Token) (fault : ParseFault) (n : ℕ) → Some fault ≡ fault_of tokens (unit nesting ([], tokens)) → AllByRecursion (Ends n) tokens → fault.span.from ≤ n
-fault_within tokens fault n e a = by_outcome n tokens fault (unit nesting ([], tokens)) (left_at tokens) e a
+pub fault_within : (tokens : List Token) (fault : ParseFault) (n : ℕ) → Some fault ≡ fault_of tokens (unit_to nesting ([], tokens)) → AllByRecursion (Ends n) tokens → fault.span.from ≤ n
+fault_within tokens fault n e a = by_outcome n tokens fault (unit_to nesting ([], tokens)) (left_at tokens) e a

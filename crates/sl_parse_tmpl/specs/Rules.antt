@@ -5,6 +5,7 @@ use Rattle.sl_ast.specs.declared.token.Token.{Token}
 use Rattle.sl_ast.specs.declared.ident.Ident.{Ident}
 use Rattle.sl_ast.specs.declared.type_tree.TypeTree.{TypeTree}
 use Rattle.sl_ast.specs.declared.expr.Expr.{Expr}
+use Rattle.sl_ast.specs.declared.pattern.Pattern.{Pattern}
 use Rattle.sl_ast.specs.declared.args.ParArgs.{ParArgs}
 use Rattle.sl_ast.specs.declared.definition.Def.{Def}
 use Rattle.sl_ast.specs.declared.definition.Param.{Param}
@@ -27,8 +28,8 @@ use Rattle.sl_parse_expr.specs.Starts.{begins_binding}
 use Rattle.sl_parse_expr.specs.Reading.{Outcome, Reader, ◌>>=◌, ◌>>◌, pure, one, expect, hold, absorb, look, choose, option, fold, clean, if_clean}
 use Rattle.sl_parse_tmpl.specs.LastNew.{member_ends_in_new}
 use Rattle.sl_parse_expr.specs.Rules.{behind_item, added, name, binding, separator, type_tree, par_args, at_comma, at_item, add_item}
-use Rattle.sl_parse_expr.specs.Levels.{expr}
-use Rattle.sl_parse_expr.specs.PatternRules.{pattern}
+use Rattle.sl_parse_expr.specs.Levels as levels
+use Rattle.sl_parse_expr.specs.PatternRules as patterns
 use Rattle.sl_parse_tmpl.specs.Words.{modifier_of, class_modifier_of, is_modifier, is_class_modifier, begins_definition, begins_member, begins_top}
 use Rattle.sl_parse_tmpl.specs.Trees.{param_tree, val_tree, var_tree, lazy_tree, def_tree, member_tree, expr_tree, parents_tree, template_tree, param_member, class_param_tree, params_tree, params_span, class_tree, trait_tree, object_tree, unit_tree}
 use Rattle.sl_parse_expr.specs.Spans.{span_or}
@@ -209,14 +210,14 @@ over_by held ts = Err (record { deep = false; at = ts })
 unfoldable pub over : Reader (Unit {0})
 over s = over_by s.0 s.1
 
--- ---- over expressions to a depth
+-- ---- over readers of the expressions and patterns inside
 
-module _ (deep : ℕ) where
+module _ (expr : Reader Expr) (pattern : Reader Pattern) where
   -- ---- members
 
   -- '=' Expr
   unfoldable pub value : Reader Expr
-  value = expect see.Equals >> expr deep
+  value = expect see.Equals >> expr
 
   -- '=' Expr, as a right side that is there
   unfoldable pub some_value : Reader (Option Expr)
@@ -252,7 +253,7 @@ module _ (deep : ℕ) where
 
   -- Expr, as a member
   unfoldable pub member_expr : Reader Member
-  member_expr = expr deep >>= λ e. pure (expr_tree e)
+  member_expr = expr >>= λ e. pure (expr_tree e)
 
   -- Member ::= {'override' | 'private'} Def | Expr
   unfoldable pub member : Reader Member
@@ -294,7 +295,7 @@ module _ (deep : ℕ) where
 
   -- ParArgs, as arguments that are there
   unfoldable pub some_args : Reader (Option ParArgs)
-  some_args = par_args (expr deep) (pattern deep) >>= λ a. pure (Some a)
+  some_args = par_args expr pattern >>= λ a. pure (Some a)
 
   -- [ParArgs]
   unfoldable pub optional_args : Reader (Option ParArgs)
@@ -350,3 +351,9 @@ module _ (deep : ℕ) where
   -- Unit ::= Seq(TopDef), to the last token
   unfoldable pub unit : Reader file.Unit
   unit = top_defs >>= λ s. over >> pure (unit_tree s.1)
+
+-- ---- the levels
+
+-- with expressions and patterns nested no deeper than the number
+abbrev pub unit_to : ℕ → Reader file.Unit
+unit_to n = unit (levels.expr n) (patterns.pattern n)

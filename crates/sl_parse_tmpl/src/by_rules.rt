@@ -16,8 +16,8 @@ const NESTING: usize = 200;
 
 /// The tree that the rules give of all tokens, or the fault where they stop.
 pub fn by_rules(alloc: Global, tokens: &[Token]) -> Result<Unit, ParseFault>
-    ensures tree { IfOk result (λ tree. Some tree ≡ faults.tree_of (spec.unit faults.nesting ([], tokens.now))) }
-    ensures fault { IfErr result (λ fault. (fault.kind ≡ ParseKind.Memory) ⊎ (Some fault ≡ faults.fault_of tokens.now (spec.unit faults.nesting ([], tokens.now)))) }
+    ensures tree { IfOk result (λ tree. Some tree ≡ faults.tree_of (spec.unit_to faults.nesting ([], tokens.now))) }
+    ensures fault { IfErr result (λ fault. (fault.kind ≡ ParseKind.Memory) ⊎ (Some fault ≡ faults.fault_of tokens.now (spec.unit_to faults.nesting ([], tokens.now)))) }
 {
     let mut left = Cursor::new(tokens);
     match unit(alloc, &mut left, NESTING) {

@@ -2,6 +2,8 @@
 
 ghost use Rattle.std.specs.Prelude.{◌≡◌};
 ghost use Rattle.sl_parse_expr.specs.Reading.{Reads};
+ghost use Rattle.sl_parse_expr.specs.Levels.{expr};
+ghost use Rattle.sl_parse_expr.specs.PatternRules.{pattern};
 ghost use Rattle.sl_parse_tmpl.specs.Rules as spec;
 
 use crate::class_params::optional_class_params;
@@ -43,7 +45,7 @@ fn class_def(
     depth: usize,
     modifiers: Items<ClassModifier>,
 ) -> Result<TopDef, Stopped>
-    ensures { Reads (spec.class_def depth modifiers tokens.old) result tokens.new }
+    ensures { Reads (spec.class_def (expr depth) (pattern depth) modifiers tokens.old) result tokens.new }
 {
     let case = optional_case(tokens)?;
     let word = expect(tokens, Ahead::Class)?;
@@ -71,7 +73,7 @@ fn trait_def(
     depth: usize,
     modifiers: Items<ClassModifier>,
 ) -> Result<TopDef, Stopped>
-    ensures { Reads (spec.trait_def depth modifiers tokens.old) result tokens.new }
+    ensures { Reads (spec.trait_def (expr depth) (pattern depth) modifiers tokens.old) result tokens.new }
 {
     let word = expect(tokens, Ahead::Trait)?;
     let name = name(alloc, tokens)?;
@@ -89,7 +91,7 @@ fn trait_def(
 // 'object' id Template
 #[tactic(auto, unfolding(crate::specs::Rules::object_def))]
 fn object_def(alloc: Global, tokens: &mut Cursor<'_>, depth: usize) -> Result<TopDef, Stopped>
-    ensures { Reads (spec.object_def depth tokens.old) result tokens.new }
+    ensures { Reads (spec.object_def (expr depth) (pattern depth) tokens.old) result tokens.new }
 {
     let start = expect(tokens, Ahead::Object)?;
     let name = name(alloc, tokens)?;
@@ -110,7 +112,7 @@ fn behind_modifiers(
     depth: usize,
     modifiers: Items<ClassModifier>,
 ) -> Result<TopDef, Stopped>
-    ensures { Reads (spec.behind_modifiers depth modifiers tokens.old) result tokens.new }
+    ensures { Reads (spec.behind_modifiers (expr depth) (pattern depth) modifiers tokens.old) result tokens.new }
 {
     if at_trait(modifiers.as_slice(), tokens.ahead()) {
         trait_def(alloc, tokens, depth, modifiers)
@@ -124,7 +126,7 @@ fn behind_modifiers(
 // TopDef: a class, trait or object with its modifiers.
 #[tactic(auto, unfolding(crate::specs::Rules::top_def))]
 fn top_def(alloc: Global, tokens: &mut Cursor<'_>, depth: usize) -> Result<TopDef, Stopped>
-    ensures { Reads (spec.top_def depth tokens.old) result tokens.new }
+    ensures { Reads (spec.top_def (expr depth) (pattern depth) tokens.old) result tokens.new }
 {
     let modifiers = class_words(alloc, tokens)?;
     behind_modifiers(alloc, tokens, depth, modifiers)
@@ -146,7 +148,7 @@ fn top_item(
     tokens: &mut Cursor<'_>,
     depth: usize,
 ) -> Result<Option<(TopDef, bool)>, Stopped>
-    ensures { Reads (spec.top_item depth tokens.old) result tokens.new }
+    ensures { Reads (spec.top_item (expr depth) (pattern depth) tokens.old) result tokens.new }
 {
     let found = top_def(alloc, tokens, depth)?;
     let clean = tokens.absorb();
@@ -160,7 +162,7 @@ fn unit_item(
     tokens: &mut Cursor<'_>,
     depth: usize,
 ) -> Result<Option<(TopDef, bool)>, Stopped>
-    ensures { Reads (spec.unit_item depth tokens.old) result tokens.new }
+    ensures { Reads (spec.unit_item (expr depth) (pattern depth) tokens.old) result tokens.new }
 {
     if separates(tokens.ahead()) {
         top_apart(tokens)
@@ -176,7 +178,7 @@ fn top_defs(
     tokens: &mut Cursor<'_>,
     depth: usize,
 ) -> Result<(bool, Items<TopDef>), Stopped>
-    ensures { Reads (spec.top_defs depth tokens.old) result tokens.new }
+    ensures { Reads (spec.top_defs (expr depth) (pattern depth) tokens.old) result tokens.new }
 {
     let mut found = Items::new(alloc);
     let mut apart = true;
@@ -206,7 +208,7 @@ fn over(tokens: &mut Cursor<'_>) -> Result<(), Stopped>
 /// A file, to the last token.
 #[tactic(auto, unfolding(crate::specs::Rules::unit))]
 pub fn unit(alloc: Global, tokens: &mut Cursor<'_>, depth: usize) -> Result<Unit, Stopped>
-    ensures { Reads (spec.unit depth tokens.old) result tokens.new }
+    ensures { Reads (spec.unit (expr depth) (pattern depth) tokens.old) result tokens.new }
 {
     let (_, defs) = top_defs(alloc, tokens, depth)?;
     over(tokens)?;

@@ -2,6 +2,8 @@
 
 ghost use Rattle.std.specs.Prelude.{◌≡◌};
 ghost use Rattle.sl_parse_expr.specs.Reading.{Reads};
+ghost use Rattle.sl_parse_expr.specs.Levels.{expr};
+ghost use Rattle.sl_parse_expr.specs.PatternRules.{pattern};
 ghost use Rattle.sl_parse_tmpl.specs.Rules as spec;
 
 use crate::params::optional_params;
@@ -14,7 +16,7 @@ use std::alloc::Global;
 // 'val' id [':' Type] ['=' Expr]
 #[tactic(auto, unfolding(crate::specs::Rules::val_def))]
 fn val_def(alloc: Global, tokens: &mut Cursor<'_>, depth: usize) -> Result<Def, Stopped>
-    ensures { Reads (spec.val_def depth tokens.old) result tokens.new }
+    ensures { Reads (spec.val_def (expr depth) (pattern depth) tokens.old) result tokens.new }
 {
     let start = expect(tokens, Ahead::Val)?;
     let name = name(alloc, tokens)?;
@@ -32,7 +34,7 @@ fn val_def(alloc: Global, tokens: &mut Cursor<'_>, depth: usize) -> Result<Def, 
 // 'var' id [':' Type] '=' Expr
 #[tactic(auto, unfolding(crate::specs::Rules::var_def))]
 fn var_def(alloc: Global, tokens: &mut Cursor<'_>, depth: usize) -> Result<Def, Stopped>
-    ensures { Reads (spec.var_def depth tokens.old) result tokens.new }
+    ensures { Reads (spec.var_def (expr depth) (pattern depth) tokens.old) result tokens.new }
 {
     let start = expect(tokens, Ahead::Var)?;
     let name = name(alloc, tokens)?;
@@ -50,7 +52,7 @@ fn var_def(alloc: Global, tokens: &mut Cursor<'_>, depth: usize) -> Result<Def, 
 // 'lazy' 'val' id [':' Type] '=' Expr
 #[tactic(auto, unfolding(crate::specs::Rules::lazy_def))]
 fn lazy_def(alloc: Global, tokens: &mut Cursor<'_>, depth: usize) -> Result<Def, Stopped>
-    ensures { Reads (spec.lazy_def depth tokens.old) result tokens.new }
+    ensures { Reads (spec.lazy_def (expr depth) (pattern depth) tokens.old) result tokens.new }
 {
     let start = expect(tokens, Ahead::Lazy)?;
     expect(tokens, Ahead::Val)?;
@@ -69,7 +71,7 @@ fn lazy_def(alloc: Global, tokens: &mut Cursor<'_>, depth: usize) -> Result<Def,
 // 'def' id ['(' [id ':' Type {',' id ':' Type}] ')'] ':' Type ['=' Expr]
 #[tactic(auto, unfolding(crate::specs::Rules::def_def))]
 fn def_def(alloc: Global, tokens: &mut Cursor<'_>, depth: usize) -> Result<Def, Stopped>
-    ensures { Reads (spec.def_def depth tokens.old) result tokens.new }
+    ensures { Reads (spec.def_def (expr depth) (pattern depth) tokens.old) result tokens.new }
 {
     let start = expect(tokens, Ahead::Def)?;
     let name = name(alloc, tokens)?;
@@ -89,7 +91,7 @@ fn def_def(alloc: Global, tokens: &mut Cursor<'_>, depth: usize) -> Result<Def, 
 /// A definition or declaration, behind its modifiers.
 #[tactic(auto, unfolding(crate::specs::Rules::definition))]
 pub fn definition(alloc: Global, tokens: &mut Cursor<'_>, depth: usize) -> Result<Def, Stopped>
-    ensures { Reads (spec.definition depth tokens.old) result tokens.new }
+    ensures { Reads (spec.definition (expr depth) (pattern depth) tokens.old) result tokens.new }
 {
     if tokens.is_at(Ahead::Val) {
         val_def(alloc, tokens, depth)

@@ -5,36 +5,38 @@ ghost use Rattle.std.specs.List.{AllByRecursion};
 ghost use Rattle.sl_ast.specs.declared.token.Token.{Token};
 ghost use Rattle.sl_ast.specs.declared.unit.Unit as file;
 ghost use Rattle.sl_parse_tmpl.specs.declared.fault.ParseFault.{ParseFault};
+ghost use Rattle.sl_parse_tmpl.specs.declared.fault.ParseKind.TheVariants as kinds;
 ghost use Rattle.sl_parse_tmpl.specs.Faults as faults;
 ghost use Rattle.sl_parse_tmpl.specs.Grammar.{Derives};
-ghost use Rattle.sl_parse_tmpl.specs.Refusals.{IsUnexpected, Refuses};
+ghost use Rattle.sl_parse_tmpl.specs.Refusals.{Refuses};
 ghost use Rattle.sl_parse_tmpl.specs.Rules as spec;
 
 /// The rules give a tree of all tokens or a fault, and not both. A fault begins within the characters of the tokens.
 pub fn parsing()
     ensures either { (tokens : List Token) →
-        ((tree : file.Unit) × (Some tree ≡ faults.tree_of (spec.unit faults.nesting ([], tokens))))
-        ⊎ ((fault : ParseFault) × (Some fault ≡ faults.fault_of tokens (spec.unit faults.nesting ([], tokens)))) }
+        ((tree : file.Unit) × (Some tree ≡ faults.tree_of (spec.unit_to faults.nesting ([], tokens))))
+        ⊎ ((fault : ParseFault) × (Some fault ≡ faults.fault_of tokens (spec.unit_to faults.nesting ([], tokens)))) }
     ensures never_both { (tokens : List Token) (tree : file.Unit) (fault : ParseFault)
-        → Some tree ≡ faults.tree_of (spec.unit faults.nesting ([], tokens))
-        → Some fault ≡ faults.fault_of tokens (spec.unit faults.nesting ([], tokens)) → ⊥ }
+        → Some tree ≡ faults.tree_of (spec.unit_to faults.nesting ([], tokens))
+        → Some fault ≡ faults.fault_of tokens (spec.unit_to faults.nesting ([], tokens)) → ⊥ }
     ensures within { (tokens : List Token) (fault : ParseFault) (n : ℕ)
-        → Some fault ≡ faults.fault_of tokens (spec.unit faults.nesting ([], tokens))
+        → Some fault ≡ faults.fault_of tokens (spec.unit_to faults.nesting ([], tokens))
         → AllByRecursion (λ t. (t.span.from ≤ n) × (t.span.to ≤ n)) tokens → fault.span.from ≤ n }
 {}
 
 /// The rules give exactly the files of the grammar. Tokens have at most one tree as a file, however deep it nests.
 pub fn files()
     ensures read { (tokens : List Token) (tree : file.Unit) → Derives faults.nesting tree tokens
-        → Some tree ≡ faults.tree_of (spec.unit faults.nesting ([], tokens)) }
+        → Some tree ≡ faults.tree_of (spec.unit_to faults.nesting ([], tokens)) }
     ensures derived { (tokens : List Token) (tree : file.Unit)
-        → Some tree ≡ faults.tree_of (spec.unit faults.nesting ([], tokens)) → Derives faults.nesting tree tokens }
+        → Some tree ≡ faults.tree_of (spec.unit_to faults.nesting ([], tokens)) → Derives faults.nesting tree tokens }
     ensures one { (n m : ℕ) (tree other : file.Unit) (tokens : List Token) → Derives n tree tokens → Derives m other tokens → tree ≡ other }
 {}
 
-/// Where the rules stop the grammar does too. `Unexpected` is told at one token.
+/// Where the rules stop the grammar does too. Of one text one fault is told, at one token.
 pub fn refusals()
     ensures told { (tokens : List Token) (fault : ParseFault)
-        → Some fault ≡ faults.fault_of tokens (spec.unit faults.nesting ([], tokens)) → Refuses tokens fault }
-    ensures one { (tokens : List Token) (i j : ℕ) → IsUnexpected tokens i → IsUnexpected tokens j → i ≡ j }
+        → Some fault ≡ faults.fault_of tokens (spec.unit_to faults.nesting ([], tokens)) → Refuses tokens fault }
+    ensures one { (tokens : List Token) (fault other : ParseFault) → Refuses tokens fault → Refuses tokens other
+        → (fault.kind ≡ kinds.Memory) ⊎ (other.kind ≡ kinds.Memory) ⊎ (fault ≡ other) }
 {}

@@ -35,10 +35,10 @@ use std::alloc::Global;
 /// where tokens are missing; `TooDeep` at a token that a file goes on with, and none that nests no deeper. `Memory` tells
 /// nothing of the tokens.
 pub fn parse(alloc: Global, tokens: &[Token]) -> Result<Unit, ParseFault>
-    ensures tree { IfOk result (λ tree. Some tree ≡ faults.tree_of (spec.unit faults.nesting ([], tokens.now))) }
+    ensures tree { IfOk result (λ tree. Some tree ≡ faults.tree_of (spec.unit_to faults.nesting ([], tokens.now))) }
     ensures derived { IfOk result (λ tree. Derives faults.nesting tree tokens.now) }
     ensures only { IfOk result (λ tree. (n : ℕ) (other : file.Unit) → Derives n other tokens.now → other ≡ tree) }
-    ensures fault { IfErr result (λ fault. (fault.kind ≡ ParseKind.Memory) ⊎ (Some fault ≡ faults.fault_of tokens.now (spec.unit faults.nesting ([], tokens.now)))) }
+    ensures fault { IfErr result (λ fault. (fault.kind ≡ ParseKind.Memory) ⊎ (Some fault ≡ faults.fault_of tokens.now (spec.unit_to faults.nesting ([], tokens.now)))) }
     ensures complete { IfErr result (λ fault. (tree : file.Unit) → Derives faults.nesting tree tokens.now → fault.kind ≡ ParseKind.Memory) }
     ensures refused { IfErr result (λ fault. Refuses tokens.now fault) }
 {

@@ -2,6 +2,8 @@
 
 ghost use Rattle.std.specs.Prelude.{◌≡◌};
 ghost use Rattle.sl_parse_expr.specs.Reading.{Reads};
+ghost use Rattle.sl_parse_expr.specs.Levels.{expr};
+ghost use Rattle.sl_parse_expr.specs.PatternRules.{pattern};
 ghost use Rattle.sl_parse_tmpl.specs.Rules as spec;
 
 use crate::definitions::definition;
@@ -17,7 +19,7 @@ use std::alloc::Global;
 // {'override' | 'private'} Def
 #[tactic(auto, unfolding(crate::specs::Rules::member_def))]
 fn member_def(alloc: Global, tokens: &mut Cursor<'_>, depth: usize) -> Result<Member, Stopped>
-    ensures { Reads (spec.member_def depth tokens.old) result tokens.new }
+    ensures { Reads (spec.member_def (expr depth) (pattern depth) tokens.old) result tokens.new }
 {
     let modifiers = modifiers(alloc, tokens)?;
     let def = definition(alloc, tokens, depth)?;
@@ -33,7 +35,7 @@ fn member_def(alloc: Global, tokens: &mut Cursor<'_>, depth: usize) -> Result<Me
 // Expr, as a member.
 #[tactic(auto, unfolding(crate::specs::Rules::member_expr))]
 fn member_expr(alloc: Global, tokens: &mut Cursor<'_>, depth: usize) -> Result<Member, Stopped>
-    ensures { Reads (spec.member_expr depth tokens.old) result tokens.new }
+    ensures { Reads (spec.member_expr (expr depth) (pattern depth) tokens.old) result tokens.new }
 {
     Ok(Member::Expr(read_expr(alloc, tokens, depth)?))
 }
@@ -41,7 +43,7 @@ fn member_expr(alloc: Global, tokens: &mut Cursor<'_>, depth: usize) -> Result<M
 // Member ::= {'override' | 'private'} Def | Expr
 #[tactic(auto, unfolding(crate::specs::Rules::member))]
 fn member(alloc: Global, tokens: &mut Cursor<'_>, depth: usize) -> Result<Member, Stopped>
-    ensures { Reads (spec.member depth tokens.old) result tokens.new }
+    ensures { Reads (spec.member (expr depth) (pattern depth) tokens.old) result tokens.new }
 {
     if begins_definition(tokens.ahead()) {
         member_def(alloc, tokens, depth)
@@ -66,7 +68,7 @@ fn member_item(
     tokens: &mut Cursor<'_>,
     depth: usize,
 ) -> Result<Option<(Member, bool)>, Stopped>
-    ensures { Reads (spec.member_item depth tokens.old) result tokens.new }
+    ensures { Reads (spec.member_item (expr depth) (pattern depth) tokens.old) result tokens.new }
 {
     let found = member(alloc, tokens, depth)?;
     let clean = behind_item(tokens, member_ends_in_new(&found))?;
@@ -80,7 +82,7 @@ fn body_item(
     tokens: &mut Cursor<'_>,
     depth: usize,
 ) -> Result<Option<(Member, bool)>, Stopped>
-    ensures { Reads (spec.body_item depth tokens.old) result tokens.new }
+    ensures { Reads (spec.body_item (expr depth) (pattern depth) tokens.old) result tokens.new }
 {
     if separates(tokens.ahead()) {
         member_apart(tokens)
@@ -96,7 +98,7 @@ pub fn members(
     tokens: &mut Cursor<'_>,
     depth: usize,
 ) -> Result<(bool, Items<Member>), Stopped>
-    ensures { Reads (spec.members depth tokens.old) result tokens.new }
+    ensures { Reads (spec.members (expr depth) (pattern depth) tokens.old) result tokens.new }
 {
     let mut found = Items::new(alloc);
     let mut apart = true;

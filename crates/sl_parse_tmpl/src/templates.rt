@@ -2,6 +2,8 @@
 
 ghost use Rattle.std.specs.Prelude.{◌≡◌};
 ghost use Rattle.sl_parse_expr.specs.Reading.{Reads};
+ghost use Rattle.sl_parse_expr.specs.Levels.{expr};
+ghost use Rattle.sl_parse_expr.specs.PatternRules.{pattern};
 ghost use Rattle.sl_parse_tmpl.specs.Rules as spec;
 
 use crate::members::members;
@@ -19,7 +21,7 @@ fn braces(
     tokens: &mut Cursor<'_>,
     depth: usize,
 ) -> Result<(Items<Member>, Span), Stopped>
-    ensures { Reads (spec.braces depth tokens.old) result tokens.new }
+    ensures { Reads (spec.braces (expr depth) (pattern depth) tokens.old) result tokens.new }
 {
     expect(tokens, Ahead::OpenBrace)?;
     let (_, members) = members(alloc, tokens, depth)?;
@@ -34,7 +36,7 @@ fn some_body(
     tokens: &mut Cursor<'_>,
     depth: usize,
 ) -> Result<Option<(Items<Member>, Span)>, Stopped>
-    ensures { Reads (spec.some_body depth tokens.old) result tokens.new }
+    ensures { Reads (spec.some_body (expr depth) (pattern depth) tokens.old) result tokens.new }
 {
     let _clean = tokens.absorb();
     Ok(Some(braces(alloc, tokens, depth)?))
@@ -47,7 +49,7 @@ fn behind_line(
     tokens: &mut Cursor<'_>,
     depth: usize,
 ) -> Result<Option<(Items<Member>, Span)>, Stopped>
-    ensures { Reads (spec.behind_line depth tokens.old) result tokens.new }
+    ensures { Reads (spec.behind_line (expr depth) (pattern depth) tokens.old) result tokens.new }
 {
     if tokens.is_at(Ahead::OpenBrace) {
         some_body(alloc, tokens, depth)
@@ -63,7 +65,7 @@ fn body(
     tokens: &mut Cursor<'_>,
     depth: usize,
 ) -> Result<Option<(Items<Member>, Span)>, Stopped>
-    ensures { Reads (spec.body depth tokens.old) result tokens.new }
+    ensures { Reads (spec.body (expr depth) (pattern depth) tokens.old) result tokens.new }
 {
     if tokens.is_at(Ahead::OpenBrace) {
         some_body(alloc, tokens, depth)
@@ -82,7 +84,7 @@ fn some_args(
     tokens: &mut Cursor<'_>,
     depth: usize,
 ) -> Result<Option<ParArgs>, Stopped>
-    ensures { Reads (spec.some_args depth tokens.old) result tokens.new }
+    ensures { Reads (spec.some_args (expr depth) (pattern depth) tokens.old) result tokens.new }
 {
     Ok(Some(read_args(alloc, tokens, depth)?))
 }
@@ -94,7 +96,7 @@ fn optional_args(
     tokens: &mut Cursor<'_>,
     depth: usize,
 ) -> Result<Option<ParArgs>, Stopped>
-    ensures { Reads (spec.optional_args depth tokens.old) result tokens.new }
+    ensures { Reads (spec.optional_args (expr depth) (pattern depth) tokens.old) result tokens.new }
 {
     if tokens.offers(Ahead::OpenParen) {
         some_args(alloc, tokens, depth)
@@ -127,7 +129,7 @@ fn traits(alloc: Global, tokens: &mut Cursor<'_>) -> Result<Items<Ident>, Stoppe
 // 'extends' id [ParArgs] {'with' id}
 #[tactic(auto, unfolding(crate::specs::Rules::parents))]
 fn parents(alloc: Global, tokens: &mut Cursor<'_>, depth: usize) -> Result<Option<Parents>, Stopped>
-    ensures { Reads (spec.parents depth tokens.old) result tokens.new }
+    ensures { Reads (spec.parents (expr depth) (pattern depth) tokens.old) result tokens.new }
 {
     expect(tokens, Ahead::Extends)?;
     let first = name(alloc, tokens)?;
@@ -147,7 +149,7 @@ fn optional_parents(
     tokens: &mut Cursor<'_>,
     depth: usize,
 ) -> Result<Option<Parents>, Stopped>
-    ensures { Reads (spec.optional_parents depth tokens.old) result tokens.new }
+    ensures { Reads (spec.optional_parents (expr depth) (pattern depth) tokens.old) result tokens.new }
 {
     if tokens.offers(Ahead::Extends) {
         parents(alloc, tokens, depth)
@@ -164,7 +166,7 @@ pub fn template(
     depth: usize,
     before: Span,
 ) -> Result<(Template, Span), Stopped>
-    ensures { Reads (spec.template depth before tokens.old) result tokens.new }
+    ensures { Reads (spec.template (expr depth) (pattern depth) before tokens.old) result tokens.new }
 {
     let parents = optional_parents(alloc, tokens, depth)?;
     let body = body(alloc, tokens, depth)?;

@@ -2,6 +2,8 @@
 
 ghost use Rattle.std.specs.Prelude.{◌≡◌};
 ghost use Rattle.sl_parse_expr.specs.Reading.{Reads};
+ghost use Rattle.sl_parse_expr.specs.Levels.{expr};
+ghost use Rattle.sl_parse_expr.specs.PatternRules.{pattern};
 ghost use Rattle.sl_parse_tmpl.specs.Rules as spec;
 
 use sl_ast::{Expr, TypeTree};
@@ -40,7 +42,7 @@ pub fn optional_type(alloc: Global, tokens: &mut Cursor<'_>) -> Result<Option<Ty
 /// `=` and an expression.
 #[tactic(auto, unfolding(crate::specs::Rules::value))]
 pub fn value(alloc: Global, tokens: &mut Cursor<'_>, depth: usize) -> Result<Expr, Stopped>
-    ensures { Reads (spec.value depth tokens.old) result tokens.new }
+    ensures { Reads (spec.value (expr depth) (pattern depth) tokens.old) result tokens.new }
 {
     expect(tokens, Ahead::Equals)?;
     read_expr(alloc, tokens, depth)
@@ -49,7 +51,7 @@ pub fn value(alloc: Global, tokens: &mut Cursor<'_>, depth: usize) -> Result<Exp
 // '=' Expr, as a right side that is there.
 #[tactic(auto, unfolding(crate::specs::Rules::some_value))]
 fn some_value(alloc: Global, tokens: &mut Cursor<'_>, depth: usize) -> Result<Option<Expr>, Stopped>
-    ensures { Reads (spec.some_value depth tokens.old) result tokens.new }
+    ensures { Reads (spec.some_value (expr depth) (pattern depth) tokens.old) result tokens.new }
 {
     Ok(Some(value(alloc, tokens, depth)?))
 }
@@ -61,7 +63,7 @@ pub fn optional_value(
     tokens: &mut Cursor<'_>,
     depth: usize,
 ) -> Result<Option<Expr>, Stopped>
-    ensures { Reads (spec.optional_value depth tokens.old) result tokens.new }
+    ensures { Reads (spec.optional_value (expr depth) (pattern depth) tokens.old) result tokens.new }
 {
     if tokens.offers(Ahead::Equals) {
         some_value(alloc, tokens, depth)

@@ -1,5 +1,5 @@
-use Rattle.sl_parse_tmpl.proofs.Refused.{is_refused, one_token}
+use Rattle.sl_parse_tmpl.proofs.Refused.{is_refused, one_fault}
 use Rattle.sl_parse_tmpl.proofs.laws.refusals.Goals as goal
 
 pub returns : goal.returns
-returns c = record { told = is_refused; one = one_token }
+returns c = record { told = is_refused; one = one_fault }

@@ -21,7 +21,7 @@ by_clean item total s st x false f = f
 pub returns-in_err-stat : goal.returns-in_err-stat
 returns-in_err-stat g c =
     let h = sym (c.goes_item.ensures c.turn.found) ∙ c.turn-test.true in
-    let f : Reads (stats (expr c.args.self.now.depth) (pattern c.args.self.now.depth) c.args.tokens.now) (Err c.in_err-stat.field-0.0) c.block_item.new.tokens = fails_as (at_item begins_stat) (block_item (expr c.args.self.now.depth) (pattern c.args.self.now.depth)) add_item (item_none c.args.self.now.depth expr pattern (level c.args.self.now.depth) (pattern_level c.args.self.now.depth)) (eats_of c.args.self.now.depth (good_block_item c.args.self.now.depth expr pattern (level c.args.self.now.depth) (pattern_level c.args.self.now.depth)) refl) (stats (expr c.args.self.now.depth) (pattern c.args.self.now.depth) c.args.tokens.now) (c.turn.apart, c.turn.found) c.turn.tokens c.turn.invariant h c.in_err-stat.field-0.0 c.block_item.new.tokens c.in_err-stat.ensures in
+    let f : Reads (stats (expr c.args.self.now.depth) (pattern c.args.self.now.depth) c.args.tokens.now) (Err c.in_err-stat.field-0.0) c.block_item.new.tokens = fails_as (at_item begins_stat) (block_item (expr c.args.self.now.depth) (pattern c.args.self.now.depth)) add_item item_none (eats_of c.args.self.now.depth (good_block_item c.args.self.now.depth expr pattern (level c.args.self.now.depth) (pattern_level c.args.self.now.depth)) refl) (stats (expr c.args.self.now.depth) (pattern c.args.self.now.depth) c.args.tokens.now) (c.turn.apart, c.turn.found) c.turn.tokens c.turn.invariant h c.in_err-stat.field-0.0 c.block_item.new.tokens c.in_err-stat.ensures in
     first_of (search rules, grind (arith, common_steps))
 
 pub turn-init : goal.turn-init
@@ -37,13 +37,13 @@ turn-smaller g c = (eats_of c.args.self.now.depth (good_block_item c.args.self.n
 pub turn-preserved-in-Some : goal.turn-preserved-in-Some
 turn-preserved-in-Some g c =
     let h = sym (c.goes_item.ensures c.turn.found) ∙ c.turn-test.true in
-    let f = goes_on (at_item begins_stat) (block_item (expr c.args.self.now.depth) (pattern c.args.self.now.depth)) add_item (item_none c.args.self.now.depth expr pattern (level c.args.self.now.depth) (pattern_level c.args.self.now.depth)) (eats_of c.args.self.now.depth (good_block_item c.args.self.now.depth expr pattern (level c.args.self.now.depth) (pattern_level c.args.self.now.depth)) refl) (stats (expr c.args.self.now.depth) (pattern c.args.self.now.depth) c.args.tokens.now) (c.turn.apart, c.turn.found) c.turn.tokens c.turn.invariant h (Some (c.in-Some.stat, c.in-Some.clean)) c.block_item.new.tokens (c.in_ok-stat.ensures ∙ ap (λ z. Ok (z, c.block_item.new.tokens)) c.in-Some.is) in
+    let f = goes_on (at_item begins_stat) (block_item (expr c.args.self.now.depth) (pattern c.args.self.now.depth)) add_item item_none (eats_of c.args.self.now.depth (good_block_item c.args.self.now.depth expr pattern (level c.args.self.now.depth) (pattern_level c.args.self.now.depth)) refl) (stats (expr c.args.self.now.depth) (pattern c.args.self.now.depth) c.args.tokens.now) (c.turn.apart, c.turn.found) c.turn.tokens c.turn.invariant h (Some (c.in-Some.stat, c.in-Some.clean)) c.block_item.new.tokens (c.in_ok-stat.ensures ∙ ap (λ z. Ok (z, c.block_item.new.tokens)) c.in-Some.is) in
     rw c.in_ok-push-in-Some.ensures.ok (by_clean (block_item (expr c.args.self.now.depth) (pattern c.args.self.now.depth)) (stats (expr c.args.self.now.depth) (pattern c.args.self.now.depth) c.args.tokens.now) (c.turn.apart, c.turn.found) c.block_item.new.tokens c.in-Some.stat c.in-Some.clean f)
 
 pub turn-preserved : goal.turn-preserved
 turn-preserved g c =
     let h = sym (c.goes_item.ensures c.turn.found) ∙ c.turn-test.true in
-    goes_on (at_item begins_stat) (block_item (expr c.args.self.now.depth) (pattern c.args.self.now.depth)) add_item (item_none c.args.self.now.depth expr pattern (level c.args.self.now.depth) (pattern_level c.args.self.now.depth)) (eats_of c.args.self.now.depth (good_block_item c.args.self.now.depth expr pattern (level c.args.self.now.depth) (pattern_level c.args.self.now.depth)) refl) (stats (expr c.args.self.now.depth) (pattern c.args.self.now.depth) c.args.tokens.now) (c.turn.apart, c.turn.found) c.turn.tokens c.turn.invariant h None c.block_item.new.tokens (c.in_ok-stat.ensures ∙ ap (λ z. Ok (z, c.block_item.new.tokens)) c.in-None.is)
+    goes_on (at_item begins_stat) (block_item (expr c.args.self.now.depth) (pattern c.args.self.now.depth)) add_item item_none (eats_of c.args.self.now.depth (good_block_item c.args.self.now.depth expr pattern (level c.args.self.now.depth) (pattern_level c.args.self.now.depth)) refl) (stats (expr c.args.self.now.depth) (pattern c.args.self.now.depth) c.args.tokens.now) (c.turn.apart, c.turn.found) c.turn.tokens c.turn.invariant h None c.block_item.new.tokens (c.in_ok-stat.ensures ∙ ap (λ z. Ok (z, c.block_item.new.tokens)) c.in-None.is)
 
 pub returns : goal.returns
-returns g c = ends (at_item begins_stat) (block_item (expr c.args.self.now.depth) (pattern c.args.self.now.depth)) add_item (item_none c.args.self.now.depth expr pattern (level c.args.self.now.depth) (pattern_level c.args.self.now.depth)) (eats_of c.args.self.now.depth (good_block_item c.args.self.now.depth expr pattern (level c.args.self.now.depth) (pattern_level c.args.self.now.depth)) refl) (stats (expr c.args.self.now.depth) (pattern c.args.self.now.depth) c.args.tokens.now) (c.turn.apart, c.turn.found) c.turn.tokens c.turn.invariant (sym (c.goes_item.ensures c.turn.found) ∙ c.turn-test.false)
+returns g c = ends (at_item begins_stat) (block_item (expr c.args.self.now.depth) (pattern c.args.self.now.depth)) add_item item_none (eats_of c.args.self.now.depth (good_block_item c.args.self.now.depth expr pattern (level c.args.self.now.depth) (pattern_level c.args.self.now.depth)) refl) (stats (expr c.args.self.now.depth) (pattern c.args.self.now.depth) c.args.tokens.now) (c.turn.apart, c.turn.found) c.turn.tokens c.turn.invariant (sym (c.goes_item.ensures c.turn.found) ∙ c.turn-test.false)

@@ -12,7 +12,7 @@ use Rattle.sl_parse_expr.proofs.grammar.Grammar.suffixes.Goals as goal
 pub returns-in_err-suffix : goal.returns-in_err-suffix
 returns-in_err-suffix g c =
     let h = sym (c.goes_suffix.ensures c.turn.found) ∙ c.turn-test.true in
-    let f : Reads (suffixes (expr c.args.self.now.depth) (pattern c.args.self.now.depth) c.args.all c.args.tokens.now) (Err c.in_err-suffix.field-0.0) c.suffix.new.tokens = fails_as at_suffix (suffix (expr c.args.self.now.depth) (pattern c.args.self.now.depth)) add_suffix (suffix_none c.args.self.now.depth expr pattern (level c.args.self.now.depth) (pattern_level c.args.self.now.depth)) (eats_of c.args.self.now.depth (good_suffix c.args.self.now.depth expr pattern (level c.args.self.now.depth) (pattern_level c.args.self.now.depth)) refl) (suffixes (expr c.args.self.now.depth) (pattern c.args.self.now.depth) c.args.all c.args.tokens.now) (c.turn.chain, c.turn.found) c.turn.tokens c.turn.invariant h c.in_err-suffix.field-0.0 c.suffix.new.tokens c.in_err-suffix.ensures in
+    let f : Reads (suffixes (expr c.args.self.now.depth) (pattern c.args.self.now.depth) c.args.all c.args.tokens.now) (Err c.in_err-suffix.field-0.0) c.suffix.new.tokens = fails_as at_suffix (suffix (expr c.args.self.now.depth) (pattern c.args.self.now.depth)) add_suffix suffix_none (eats_of c.args.self.now.depth (good_suffix c.args.self.now.depth expr pattern (level c.args.self.now.depth) (pattern_level c.args.self.now.depth)) refl) (suffixes (expr c.args.self.now.depth) (pattern c.args.self.now.depth) c.args.all c.args.tokens.now) (c.turn.chain, c.turn.found) c.turn.tokens c.turn.invariant h c.in_err-suffix.field-0.0 c.suffix.new.tokens c.in_err-suffix.ensures in
     first_of (search rules, grind (arith, common_steps))
 
 pub turn-init : goal.turn-init
@@ -28,13 +28,13 @@ turn-smaller g c = (eats_of c.args.self.now.depth (good_suffix c.args.self.now.d
 pub turn-preserved-in-Some : goal.turn-preserved-in-Some
 turn-preserved-in-Some g c =
     let h = sym (c.goes_suffix.ensures c.turn.found) ∙ c.turn-test.true in
-    let f = goes_on at_suffix (suffix (expr c.args.self.now.depth) (pattern c.args.self.now.depth)) add_suffix (suffix_none c.args.self.now.depth expr pattern (level c.args.self.now.depth) (pattern_level c.args.self.now.depth)) (eats_of c.args.self.now.depth (good_suffix c.args.self.now.depth expr pattern (level c.args.self.now.depth) (pattern_level c.args.self.now.depth)) refl) (suffixes (expr c.args.self.now.depth) (pattern c.args.self.now.depth) c.args.all c.args.tokens.now) (c.turn.chain, c.turn.found) c.turn.tokens c.turn.invariant h (Some c.in-Some.suffix) c.suffix.new.tokens (c.in_ok-suffix.ensures ∙ ap (λ z. Ok (z, c.suffix.new.tokens)) c.in-Some.is) in
+    let f = goes_on at_suffix (suffix (expr c.args.self.now.depth) (pattern c.args.self.now.depth)) add_suffix suffix_none (eats_of c.args.self.now.depth (good_suffix c.args.self.now.depth expr pattern (level c.args.self.now.depth) (pattern_level c.args.self.now.depth)) refl) (suffixes (expr c.args.self.now.depth) (pattern c.args.self.now.depth) c.args.all c.args.tokens.now) (c.turn.chain, c.turn.found) c.turn.tokens c.turn.invariant h (Some c.in-Some.suffix) c.suffix.new.tokens (c.in_ok-suffix.ensures ∙ ap (λ z. Ok (z, c.suffix.new.tokens)) c.in-Some.is) in
     rw c.in_ok-push-in-Some.ensures.ok f
 
 pub turn-preserved : goal.turn-preserved
 turn-preserved g c =
     let h = sym (c.goes_suffix.ensures c.turn.found) ∙ c.turn-test.true in
-    goes_on at_suffix (suffix (expr c.args.self.now.depth) (pattern c.args.self.now.depth)) add_suffix (suffix_none c.args.self.now.depth expr pattern (level c.args.self.now.depth) (pattern_level c.args.self.now.depth)) (eats_of c.args.self.now.depth (good_suffix c.args.self.now.depth expr pattern (level c.args.self.now.depth) (pattern_level c.args.self.now.depth)) refl) (suffixes (expr c.args.self.now.depth) (pattern c.args.self.now.depth) c.args.all c.args.tokens.now) (c.turn.chain, c.turn.found) c.turn.tokens c.turn.invariant h None c.suffix.new.tokens (c.in_ok-suffix.ensures ∙ ap (λ z. Ok (z, c.suffix.new.tokens)) c.in-None.is)
+    goes_on at_suffix (suffix (expr c.args.self.now.depth) (pattern c.args.self.now.depth)) add_suffix suffix_none (eats_of c.args.self.now.depth (good_suffix c.args.self.now.depth expr pattern (level c.args.self.now.depth) (pattern_level c.args.self.now.depth)) refl) (suffixes (expr c.args.self.now.depth) (pattern c.args.self.now.depth) c.args.all c.args.tokens.now) (c.turn.chain, c.turn.found) c.turn.tokens c.turn.invariant h None c.suffix.new.tokens (c.in_ok-suffix.ensures ∙ ap (λ z. Ok (z, c.suffix.new.tokens)) c.in-None.is)
 
 pub returns : goal.returns
-returns g c = ends at_suffix (suffix (expr c.args.self.now.depth) (pattern c.args.self.now.depth)) add_suffix (suffix_none c.args.self.now.depth expr pattern (level c.args.self.now.depth) (pattern_level c.args.self.now.depth)) (eats_of c.args.self.now.depth (good_suffix c.args.self.now.depth expr pattern (level c.args.self.now.depth) (pattern_level c.args.self.now.depth)) refl) (suffixes (expr c.args.self.now.depth) (pattern c.args.self.now.depth) c.args.all c.args.tokens.now) (c.turn.chain, c.turn.found) c.turn.tokens c.turn.invariant (sym (c.goes_suffix.ensures c.turn.found) ∙ c.turn-test.false)
+returns g c = ends at_suffix (suffix (expr c.args.self.now.depth) (pattern c.args.self.now.depth)) add_suffix suffix_none (eats_of c.args.self.now.depth (good_suffix c.args.self.now.depth expr pattern (level c.args.self.now.depth) (pattern_level c.args.self.now.depth)) refl) (suffixes (expr c.args.self.now.depth) (pattern c.args.self.now.depth) c.args.all c.args.tokens.now) (c.turn.chain, c.turn.found) c.turn.tokens c.turn.invariant (sym (c.goes_suffix.ensures c.turn.found) ∙ c.turn-test.false)
