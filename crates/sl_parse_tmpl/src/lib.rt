@@ -32,8 +32,8 @@ use std::alloc::Global;
 
 /// The tree of a file, of all its tokens (SLS 4, 5, 9): the one that derives them by the grammar, with expressions and
 /// patterns nested at most 200 deep. A fault: `Unexpected` at the first token that no file goes on with, or at the end
-/// where tokens are missing; `TooDeep` at a token that a file goes on with, and none that nests no deeper. `Memory` tells
-/// nothing of the tokens.
+/// where tokens are missing; `TooDeep` at the first that lies deeper than 200 in each file that goes on with it; the first
+/// of the two. `Memory` tells nothing of the tokens.
 pub fn parse(alloc: Global, tokens: &[Token]) -> Result<Unit, ParseFault>
     ensures tree { IfOk result (λ tree. Some tree ≡ faults.tree_of (spec.unit_to faults.nesting ([], tokens.now))) }
     ensures derived { IfOk result (λ tree. Derives faults.nesting tree tokens.now) }
