@@ -1,5 +1,5 @@
 -- Arguments, statements and blocks that are in the grammar are read, over the expressions inside.
-use Rattle.std.proofs.Common.{◌≡◌, ℕ, Bool, true, false, List, [], ◌∷◌, ◌++◌, Option, Some, None, refl, sym, ap, ◌∙◌, append_assoc, inl, inr, ◌⊎◌}
+use Rattle.std.proofs.Common.{◌≡◌, Bool, true, false, List, [], ◌∷◌, ◌++◌, Option, Some, None, refl, sym, ap, ◌∙◌, append_assoc, inl, inr, ◌⊎◌}
 use Rattle.std.specs.Prelude.{if◌then◌else◌, ◌&&◌, ◌||◌, not}
 use Rattle.std.proofs.lemmas.List.{append-nil}
 use Rattle.sl_text.specs.declared.span.Span.{Span}
@@ -20,8 +20,6 @@ use Rattle.sl_parse_expr.specs.LastNew.{stat_ends_in_new}
 use Rattle.sl_parse_expr.specs.Trees.{block_tree}
 use Rattle.sl_parse_expr.specs.Reading.{Outcome, State, and_then, ◌>>=◌, ◌>>◌, pure, stuck, ahead, rest, nothing, choose, absorb, settle, fold, clean, Reader}
 use Rattle.sl_parse_expr.specs.Rules.{next_arg, more_args, some_args, no_args, par_args, typed, local, expr_as_stat, stat, apart, stat_item, block_item, stats, block, braces, at_item, add_item, no_brace, bare_line, behind_bare, behind_new, behind_item}
-use Rattle.sl_parse_expr.specs.PatternRules.{pattern}
-use Rattle.sl_parse_expr.specs.Levels.{expr}
 use Rattle.sl_parse_expr.specs.Phrases.{IsWord, IsMore, IsListed, IsSeq, body_follows, Pending, none_held, semi_held, line_held, lines_held}
 use Rattle.sl_parse_expr.specs.Phrases as phrase
 use Rattle.sl_parse_expr.specs.Grammar.{IsTyped, IsPattern, IsExpr, IsParArgs, IsStat, IsBlock, IsBraces}
@@ -30,7 +28,6 @@ use Rattle.sl_parse_expr.proofs.Theory.{Held, ok_of, decide, fold_goes, fold_sta
 use Rattle.sl_parse_expr.proofs.Choices.{both_false}
 use Rattle.sl_parse_expr.proofs.Begun.{word_reads}
 use Rattle.sl_parse_expr.proofs.Good.{item_none}
-use Rattle.sl_parse_expr.proofs.Loops.{Eats, eats_of}
 use Rattle.sl_parse_expr.proofs.Fronts.{front, are_same, binding_ahead, separator_ahead}
 use Rattle.sl_parse_expr.proofs.ExprFronts.{front_stat, no_close, no_binding, no_separator}
 use Rattle.sl_parse_expr.proofs.Reaches.{Reaches, Lands, From, cleared, next_clean, upon, upon_clean, map, map_clean, through_clean, marked, closing, optional_clean, left, right, left_clean, right_clean, stays, goes}

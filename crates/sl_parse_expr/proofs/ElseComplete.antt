@@ -1,5 +1,5 @@
 -- What stands behind an `if` in the grammar is read: an `else`, which separators may precede, or none.
-use Rattle.std.proofs.Common.{◌≡◌, ℕ, Bool, true, false, List, [], ◌∷◌, ◌++◌, Option, Some, None, refl, sym, ap, ◌∙◌}
+use Rattle.std.proofs.Common.{◌≡◌, Bool, true, false, List, [], ◌∷◌, ◌++◌, Option, Some, None, refl, sym, ap, ◌∙◌}
 use Rattle.std.specs.Prelude.{if◌then◌else◌, ◌&&◌, ◌||◌}
 use Rattle.sl_text.specs.declared.span.Span.{Span}
 use Rattle.sl_ast.specs.declared.token.Token.{Token}
@@ -11,8 +11,6 @@ use Rattle.sl_parse_expr.specs.declared.cursor.Waiting.TheVariants as waiting
 use Rattle.sl_parse_expr.specs.Ahead.{sort, same}
 use Rattle.sl_parse_expr.specs.Reading.{Reader, ◌>>=◌, ◌>>◌, pure, hold, ahead, rest, expect, absorb, waits}
 use Rattle.sl_parse_expr.specs.Rules.{with_else, third, third_by, second, second_by, other, semi_from, line_from}
-use Rattle.sl_parse_expr.specs.PatternRules.{pattern}
-use Rattle.sl_parse_expr.specs.Levels.{expr}
 use Rattle.sl_parse_expr.specs.Phrases.{IsWord, IsSemi, Pending, none_held, semi_held, line_held, lines_held}
 use Rattle.sl_parse_expr.specs.Phrases as phrase
 use Rattle.sl_parse_expr.specs.Grammar.{IsPattern, IsExpr, IsOther, else_follows}

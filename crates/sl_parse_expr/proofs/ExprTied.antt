@@ -1,16 +1,15 @@
 -- The rules of expressions over readers that are tied. A rule's proof repeats its definition.
-use Rattle.std.proofs.Common.{ℕ, Bool, true, false, List, [], ◌∷◌, None}
+use Rattle.std.proofs.Common.{ℕ, Bool, true, List, [], None}
 use Rattle.sl_ast.specs.declared.expr.Expr.{Expr}
 use Rattle.sl_ast.specs.declared.infix.Infix.{Infix}
 use Rattle.sl_ast.specs.declared.pattern.Pattern.{Pattern}
-use Rattle.sl_parse_expr.specs.declared.ahead.Ahead.{Ahead}
 use Rattle.sl_parse_expr.specs.declared.ahead.Ahead.TheVariants as see
 use Rattle.sl_parse_expr.specs.Ahead.{same}
 use Rattle.sl_parse_expr.specs.LastNew.{stat_ends_in_new}
 use Rattle.sl_parse_expr.specs.Starts.{begins_sign, begins_binding, begins_stat}
 use Rattle.sl_parse_expr.specs.Tokens.{separates}
 use Rattle.sl_parse_expr.specs.Trees.{plain_expr}
-use Rattle.sl_parse_expr.specs.Reading.{Reader, clean, waits, absorb, pure, stuck}
+use Rattle.sl_parse_expr.specs.Reading.{Reader, clean, waits, absorb, stuck}
 use Rattle.sl_parse_expr.specs.Rules.{added, at_comma, at_operator, at_case, at_behind, first_chain, at_suffix, add_suffix, at_item, add_item, semi_from, line_from, next_arg, more_args, some_args, no_args, par_args, typed, local, expr_as_stat, stat, apart, stat_item, block_item, stats, block, braces, literal_start, name_start, this_start, super_start, new_args, new_start, nothing_inside, expr_inside, parens_start, block_start, start, selection, call, block_call, behind_line, line_call, suffix, suffixes, simple, signed, unsigned, prefix, line_operand, operand, operation, operations, infix_expr, guarded, case_reader, more_cases, cases, with_else, third, second, other, condition, if_expr, while_expr, handler, finalizer, try_expr, throw_expr, match_behind, assign_behind, behind_infix, plain, any}
 use Rattle.sl_parse_expr.proofs.Choices.{good_absorb}
 use Rattle.sl_parse_expr.proofs.Theory.{always}

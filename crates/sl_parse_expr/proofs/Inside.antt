@@ -1,5 +1,5 @@
 -- What the rules ask of the readers of the expressions and patterns inside, and of what these are by the grammar.
-use Rattle.std.proofs.Common.{◌≡◌, ℕ, zero, suc, Bool, true, List, [], ◌++◌, refl}
+use Rattle.std.proofs.Common.{◌≡◌, ℕ, Bool, true, List, [], ◌++◌, refl}
 use Rattle.sl_ast.specs.declared.token.Token.{Token}
 use Rattle.sl_ast.specs.declared.expr.Expr.{Expr}
 use Rattle.sl_ast.specs.declared.pattern.Pattern.{Pattern}

@@ -19,7 +19,6 @@ use Rattle.sl_parse_expr.specs.Phrases.{IsWord, IsMore, IsListed}
 use Rattle.sl_parse_expr.specs.Phrases as phrase
 use Rattle.sl_parse_expr.specs.Grammar.{IsTyped, IsClosed, IsConstructor, IsPatS, IsPat, IsAnyPattern, IsPattern}
 use Rattle.sl_parse_expr.specs.Grammar as grammar
-use Rattle.sl_parse_expr.proofs.Loops.{Eats, eats_of}
 use Rattle.sl_parse_expr.proofs.Fronts.{front, front_name, front_literal}
 use Rattle.sl_parse_expr.proofs.Reaches.{Reaches, Lands, From, loose, at_once, next_clean, upon, upon_clean, map_clean, map_from, through_clean, marked, closing, without, having, left_clean, right_clean, stays, goes}
 use Rattle.sl_parse_expr.proofs.Complete.{reads_name, reads_literal, reads_type}

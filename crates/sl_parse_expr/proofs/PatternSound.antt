@@ -22,7 +22,6 @@ use Rattle.sl_parse_expr.specs.Phrases as phrase
 use Rattle.sl_parse_expr.specs.Grammar.{IsName, IsType, IsTyped, IsClosed, IsConstructor, IsPatS, IsPat, IsAnyPattern, IsPattern}
 use Rattle.sl_parse_expr.specs.Grammar as grammar
 use Rattle.sl_parse_expr.proofs.Theory.{Held, stop}
-use Rattle.sl_parse_expr.proofs.Loops.{Eats, eats_of}
 use Rattle.sl_parse_expr.proofs.Gives.{Gives, Clean, Loose, stopped, looser, as_clean, as_loose, next, upon, map_clean, map_loose, single, marked, both, perhaps_clean, listing, IsNext, behind, one_behind}
 use Rattle.sl_parse_expr.proofs.Inside.{SoundPatterns, pattern_items}
 

@@ -6,12 +6,12 @@ use Rattle.sl_ast.specs.declared.pattern.Wildcard.{Wildcard}
 use Rattle.sl_ast.specs.declared.pattern.Wildcard.TheVariants as wildcard
 use Rattle.sl_parse_expr.specs.declared.ahead.Ahead.TheVariants as see
 use Rattle.sl_parse_expr.specs.Ahead.{same}
-use Rattle.sl_parse_expr.specs.PatternTrees.{any_tree, name_tree, simple_as_pat, typed_tree}
+use Rattle.sl_parse_expr.specs.PatternTrees.{any_tree, name_tree, simple_as_pat}
 use Rattle.sl_parse_expr.specs.Reading.{Reader, clean}
 use Rattle.sl_parse_expr.specs.Rules.{added, at_comma, at_bar}
 use Rattle.sl_parse_expr.specs.PatternRules.{at_name, next_part, more_parts, some_parts, no_parts, constructor, inside, minus, no_minus, closed, anything, called, simple_pattern, of_type, bound, built, behind_name, by_name, by_underscore, by_itself, alternative, next_alternative, more_alternatives, any_pattern}
 use Rattle.sl_parse_expr.proofs.Good.{good_name, good_literal, good_type}
-use Rattle.sl_parse_expr.proofs.Tied.{Tied, plainly, given, bind, map, chosen, perhaps, folded, word}
+use Rattle.sl_parse_expr.proofs.Tied.{Tied, plainly, bind, map, chosen, perhaps, folded, word}
 
 module _ {k : ℕ} {p u y : Reader Pattern} (t : Tied k p u y) where
   pub tied_next_part : Tied k (next_part p) (next_part u) (next_part y)

@@ -1,5 +1,5 @@
 -- Simple expressions and operators that are in the grammar are read, over the expressions inside.
-use Rattle.std.proofs.Common.{◌≡◌, ℕ, Bool, true, false, List, [], ◌∷◌, ◌++◌, Option, Some, None, refl, sym, ap, ◌∙◌, append_assoc, inl, inr, ◌⊎◌}
+use Rattle.std.proofs.Common.{◌≡◌, Bool, true, false, List, [], ◌∷◌, ◌++◌, Option, Some, None, refl, sym, ap, ◌∙◌, append_assoc, inl, inr, ◌⊎◌}
 use Rattle.std.specs.Prelude.{if◌then◌else◌, ◌&&◌, ◌||◌}
 use Rattle.std.proofs.lemmas.List.{append-nil}
 use Rattle.sl_text.specs.declared.span.Span.{Span}
@@ -26,8 +26,6 @@ use Rattle.sl_parse_expr.specs.Tokens.{operator_of}
 use Rattle.sl_parse_expr.specs.Trees.{select, apply, apply_block, simple_tree, operation_tree}
 use Rattle.sl_parse_expr.specs.Reading.{Outcome, State, ◌>>◌, pure, stuck, hold, ahead, nothing, choose, absorb, fold, clean, Reader}
 use Rattle.sl_parse_expr.specs.Rules.{added, literal_start, name_start, this_start, super_start, new_args, new_start, nothing_inside, expr_inside, parens_start, block_start, start, selection, call, block_call, behind_line, line_call, suffix, suffixes, first_chain, goes_chain, at_suffix, add_suffix, simple, signed, unsigned, prefix, line_operand, operand, operation, operations, infix_expr}
-use Rattle.sl_parse_expr.specs.PatternRules.{pattern}
-use Rattle.sl_parse_expr.specs.Levels.{expr}
 use Rattle.sl_parse_expr.specs.Phrases.{IsOne, IsWord, IsLine, Pending, none_held, line_held}
 use Rattle.sl_parse_expr.specs.Phrases as phrase
 use Rattle.sl_parse_expr.specs.Grammar.{IsPattern, IsExpr, IsParArgs, IsBraces, IsHead, IsSuffixes, IsSimple, IsPrefix, IsOperations, IsInfix, suffix_follows}
@@ -36,7 +34,6 @@ use Rattle.sl_parse_expr.proofs.Theory.{Held, ok_of, decide, fold_goes, fold_sta
 use Rattle.sl_parse_expr.proofs.Choices.{both_false}
 use Rattle.sl_parse_expr.proofs.Begun.{skip}
 use Rattle.sl_parse_expr.proofs.Good.{suffix_none}
-use Rattle.sl_parse_expr.proofs.Loops.{Eats, eats_of}
 use Rattle.sl_parse_expr.proofs.Fronts.{front, front_name, front_literal, word_ahead, operator_ahead, sign_ahead}
 use Rattle.sl_parse_expr.proofs.ExprFronts.{front_braces, front_simple, front_prefix, no_close, no_sign, no_line_end}
 use Rattle.sl_parse_expr.proofs.Reaches.{Reaches, Lands, From, next, next_clean, upon, upon_clean, map, map_clean, map_from, marked, closing, optional_clean, left, right, left_clean, right_clean, stays, goes}

@@ -32,7 +32,7 @@ use Rattle.sl_parse_expr.specs.Grammar.{IsTyped, IsPattern, IsParArgs, IsStat, I
 use Rattle.sl_parse_expr.specs.Grammar as grammar
 use Rattle.sl_parse_expr.proofs.Theory.{Held, stop}
 use Rattle.sl_parse_expr.proofs.Good.{newline, item_none, suffix_none}
-use Rattle.sl_parse_expr.proofs.Loops.{Eats, eats_of}
+use Rattle.sl_parse_expr.proofs.Loops.{eats_of}
 use Rattle.sl_parse_expr.proofs.Gives.{Gives, Clean, Loose, give, stopped, same_as, weaker, looser, as_loose, next, upon, map_clean, map_loose, single, marked, either, both, branch_by, holding, looked, absorbed, settled, perhaps, perhaps_clean, loop, listing, IsNext, behind, one_behind}
 use Rattle.sl_parse_expr.proofs.Inside.{SoundExprs, expr_items}
 use Rattle.sl_parse_expr.proofs.PatternSound.{name_is, literal_is, type_is, sound_patterns}

@@ -1,7 +1,7 @@
 -- Three readers: one that stops for depth at once, one that does so until k tokens are left, and one that goes deeper. Where
 -- the first doesn't stop for depth they are alike. Where it does with more than k tokens left, the second stops too, and
 -- else the second is the third.
-use Rattle.std.proofs.Common.{◌≡◌, ℕ, zero, suc, ◌+◌, ◌≤◌, ◌<◌, Bool, true, false, List, [], ◌∷◌, ◌++◌, length, Option, Some, None, Ok, Err, refl, sym, ap, subst, ◌∙◌, arith, inl, inr, ◌⊎◌}
+use Rattle.std.proofs.Common.{◌≡◌, ℕ, zero, suc, ◌≤◌, ◌<◌, Bool, true, false, List, [], ◌∷◌, ◌++◌, length, Option, Some, None, Ok, Err, refl, sym, ap, subst, ◌∙◌, arith}
 use Rattle.std.specs.Prelude.{if◌then◌else◌}
 use Rattle.std.proofs.lemmas.List.{length-append}
 use Rattle.sl_text.specs.declared.span.Span.{Span}
@@ -9,7 +9,7 @@ use Rattle.sl_ast.specs.declared.token.Token.{Token}
 use Rattle.sl_parse_expr.specs.declared.ahead.Ahead.{Ahead}
 use Rattle.sl_parse_expr.specs.Reading.{Stop, State, Outcome, Reader, and_then, ◌>>=◌, pure, ahead, nothing, rest, first, hold, look, choose_by, choose, option, if_clean, shorter, fold, fold_from, expect, one, one_by}
 use Rattle.sl_parse_expr.specs.Reading as reading
-use Rattle.sl_parse_expr.proofs.Theory.{Held, Good, ok_of, err_of, stop, ok_2}
+use Rattle.sl_parse_expr.proofs.Theory.{Good, err_of, stop, ok_2}
 use Rattle.sl_parse_expr.proofs.Loops.{Eats}
 
 -- at most k tokens are left behind what was read

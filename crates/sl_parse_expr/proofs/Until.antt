@@ -14,13 +14,10 @@ use Rattle.sl_parse_expr.specs.PatternRules.{any_pattern, pattern, begins_patter
 use Rattle.sl_parse_expr.specs.Levels.{expr}
 use Rattle.sl_parse_expr.specs.Grammar.{IsExpr, IsPattern}
 use Rattle.sl_parse_expr.specs.Until.{IsExprUntil, IsPatternUntil}
-use Rattle.sl_parse_expr.proofs.Theory.{Held, Good, ok_of, err_of, stop, decide, ok_2}
+use Rattle.sl_parse_expr.proofs.Theory.{Held, Good, ok_of, err_of, stop, decide}
 use Rattle.sl_parse_expr.proofs.Choices.{both_false}
 use Rattle.sl_parse_expr.proofs.Level.{level, pattern_level}
-use Rattle.sl_parse_expr.proofs.Good.{good_next_arg, good_block_item, good_suffix, good_operation, good_case}
-use Rattle.sl_parse_expr.proofs.PatternGood.{good_next_part, good_next_alternative}
-use Rattle.sl_parse_expr.proofs.Loops.{Eats, eats_of}
-use Rattle.sl_parse_expr.proofs.Gives.{Gives, Clean, Loose, stopped, same_as}
+use Rattle.sl_parse_expr.proofs.Gives.{Gives, Loose}
 use Rattle.sl_parse_expr.proofs.Reaches.{Reaches}
 use Rattle.sl_parse_expr.proofs.Inside.{PatternItems, ExprItems, pattern_items, expr_items, SoundPatterns, SoundExprs, CompletePatterns, CompleteExprs, Untold}
 use Rattle.sl_parse_expr.proofs.PatternSound.{pattern_is, any_pattern_is}

@@ -1,5 +1,5 @@
 -- What is read as a file is one by the grammar. A rule's proof repeats its definition.
-use Rattle.std.proofs.Common.{◌≡◌, ℕ, Bool, true, false, List, [], ◌∷◌, ◌++◌, Option, Some, None, refl, sym, subst}
+use Rattle.std.proofs.Common.{◌≡◌, Bool, true, false, List, [], ◌∷◌, Option, Some, None, refl, sym, subst}
 use Rattle.std.specs.Prelude.{if◌then◌else◌, ◌&&◌}
 use Rattle.sl_text.specs.declared.span.Span.{Span}
 use Rattle.sl_ast.specs.declared.token.Token.{Token}
@@ -28,7 +28,7 @@ use Rattle.sl_parse_expr.specs.Grammar as inner
 use Rattle.sl_parse_expr.proofs.Theory.{Held, ok_of, bind_ok, ok_0}
 use Rattle.sl_parse_expr.proofs.Loops.{Eats, eats_of}
 use Rattle.sl_parse_expr.proofs.Fronts.{are_same}
-use Rattle.sl_parse_expr.proofs.Gives.{Gives, Clean, Loose, give, looser, as_clean, as_loose, next, upon, map_clean, map_loose, single, marked, either, both, branch_by, holding, looked, absorbed, perhaps, perhaps_clean, listing, IsNext, behind, one_behind}
+use Rattle.sl_parse_expr.proofs.Gives.{Gives, Clean, Loose, give, looser, as_clean, as_loose, upon, map_clean, map_loose, single, marked, either, both, branch_by, holding, looked, absorbed, perhaps, perhaps_clean, IsNext, behind, one_behind}
 use Rattle.sl_parse_expr.proofs.PatternSound.{name_is, type_is}
 use Rattle.sl_parse_expr.proofs.Inside.{SoundExprs}
 use Rattle.sl_parse_expr.proofs.Sound.{par_args_is}
