@@ -1,6 +1,7 @@
 -- Where reading a file stops, in the words of the grammar.
 use Rattle.std.proofs.Common.{◌≡◌, ◌≤◌, ◌<◌, ◌+◌, ◌-◌, ◌⊎◌, inl, inr, ℕ, zero, suc, Bool, true, false, List, [], ◌∷◌, ◌++◌, length, take, drop, Option, Some, None, Ok, Err, refl, sym, ap, subst, ◌∙◌, append_assoc, arith}
 use Rattle.std.specs.Prelude.{slice_get, Result, IfOk, IfErr}
+use Rattle.std.specs.List.{AllByRecursion}
 use Rattle.std.proofs.lemmas.List.{length-append}
 use Rattle.sl_ast.specs.declared.token.Token.{Token}
 use Rattle.sl_ast.specs.declared.unit.TopDef.{TopDef}
@@ -26,7 +27,7 @@ use Rattle.sl_parse_tmpl.specs.Rules as rules_
 use Rattle.sl_parse_tmpl.specs.Rules.{over, over_by, unit_to}
 use Rattle.sl_parse_tmpl.specs.Trees.{unit_tree}
 use Rattle.sl_parse_tmpl.proofs.Good.{good_top_defs}
-use Rattle.sl_parse_tmpl.proofs.Within.{never_both}
+use Rattle.sl_parse_tmpl.proofs.Within.{never_both, token_within}
 use Rattle.sl_parse_tmpl.proofs.Items.{FileItems, file_items}
 use Rattle.sl_parse_tmpl.proofs.Sound as sound
 use Rattle.sl_parse_tmpl.proofs.Complete as complete
@@ -332,10 +333,10 @@ all_files tokens (Ok tree) h = tt
 all_files tokens (Err fault) (inl i) = λ tree h. i
 all_files tokens (Err fault) (inr e) = λ tree h. absurd (never_both tokens (unit_to nesting ([], tokens)) tree fault (file_reads tokens tree h) e)
 
-pub refused : (tokens : List Token) (result : Result file.Unit ParseFault) → IfErr result (λ fault. (fault.kind ≡ kinds.Memory) ⊎ (Some fault ≡ fault_of tokens (unit_to nesting ([], tokens)))) → IfErr result (λ fault. Refuses tokens fault)
+pub refused : (tokens : List Token) (result : Result file.Unit ParseFault) → IfErr result (λ fault. (fault.kind ≡ kinds.Memory) ⊎ (Some fault ≡ fault_of tokens (unit_to nesting ([], tokens)))) → IfErr result (λ fault. (fault.kind ≡ kinds.Memory) ⊎ Refuses tokens fault)
 refused tokens (Ok tree) h = tt
-refused tokens (Err fault) (inl i) = spec.memory i
-refused tokens (Err fault) (inr e) = is_refused tokens fault e
+refused tokens (Err fault) (inl i) = inl i
+refused tokens (Err fault) (inr e) = inr (is_refused tokens fault e)
 
 -- ---- one fault
 
@@ -363,10 +364,16 @@ never_two n tokens i j h k (inl l) = h.refused (within_continues n tokens i (k.b
 never_two n tokens i j h k (inr (inl l)) = k.refused (h.before j l)
 never_two n tokens i j h k (inr (inr e)) = h.refused (subst (λ (z : ℕ). Continues tokens z) (sym e) k.continued)
 
-pub one_fault : (tokens : List Token) (fault other : ParseFault) → Refuses tokens fault → Refuses tokens other → (fault.kind ≡ kinds.Memory) ⊎ (other.kind ≡ kinds.Memory) ⊎ (fault ≡ other)
-one_fault tokens fault other (spec.memory i) k = inl i
-one_fault tokens fault other h (spec.memory j) = inr (inl j)
-one_fault tokens fault other (spec.unexpected {i = i} h) (spec.unexpected {i = j} k) = inr (inr (ap (λ (z : ℕ). fault_of_token tokens z kinds.Unexpected) (one_unexpected nesting tokens i j h k (which i j))))
-one_fault tokens fault other (spec.too_deep {i = i} h) (spec.too_deep {i = j} k) = inr (inr (ap (λ (z : ℕ). fault_of_token tokens z kinds.TooDeep) (one_too_deep nesting tokens i j h k (which i j))))
+pub one_fault : (tokens : List Token) (fault other : ParseFault) → Refuses tokens fault → Refuses tokens other → fault ≡ other
+one_fault tokens fault other (spec.unexpected {i = i} h) (spec.unexpected {i = j} k) = ap (λ (z : ℕ). fault_of_token tokens z kinds.Unexpected) (one_unexpected nesting tokens i j h k (which i j))
+one_fault tokens fault other (spec.too_deep {i = i} h) (spec.too_deep {i = j} k) = ap (λ (z : ℕ). fault_of_token tokens z kinds.TooDeep) (one_too_deep nesting tokens i j h k (which i j))
 one_fault tokens fault other (spec.unexpected {i = i} h) (spec.too_deep {i = j} k) = absurd (never_two nesting tokens i j h k (which i j))
 one_fault tokens fault other (spec.too_deep {i = i} h) (spec.unexpected {i = j} k) = absurd (never_two nesting tokens j i k h (which j i))
+
+pub tree_or_fault : (tokens : List Token) (tree : file.Unit) (fault : ParseFault) → Derives nesting tree tokens → Refuses tokens fault → ⊥
+tree_or_fault tokens tree fault d (spec.unexpected h) = h.none nesting tree d
+tree_or_fault tokens tree fault d (spec.too_deep h) = h.none tree d
+
+pub fault_within : (tokens : List Token) (fault : ParseFault) (n : ℕ) → Refuses tokens fault → AllByRecursion (λ (t : Token). (t.span.from ≤ n) × (t.span.to ≤ n)) tokens → fault.span.from ≤ n
+fault_within tokens fault n (spec.unexpected {i = i} h) a = token_within n tokens i a
+fault_within tokens fault n (spec.too_deep {i = i} h) a = token_within n tokens i a

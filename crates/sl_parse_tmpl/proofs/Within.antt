@@ -68,6 +68,10 @@ next_span_within : (n : ℕ) (tokens : List Token) (o : Option Token) → AllByR
 next_span_within n tokens (Some t) a h = (h t refl).0
 next_span_within n tokens None a h = behind_within n (slice_get tokens (length tokens - 1)) (λ t e. at_index n tokens (length tokens - 1) t a e)
 
+-- a fault at a token, or behind all
+pub token_within : (n : ℕ) (tokens : List Token) (i : ℕ) → AllByRecursion (Ends n) tokens → (next_span tokens (slice_get tokens i)).from ≤ n
+token_within n tokens i a = next_span_within n tokens (slice_get tokens i) a (λ t e. at_index n tokens i t a e)
+
 left_within : (n : ℕ) (tokens left : List Token) → IsLeft tokens left → AllByRecursion (Ends n) tokens → (next_span tokens (head left)).from ≤ n
 left_within n tokens left l a =
     let b : AllByRecursion (Ends n) (l.0 ++ left) = subst (λ (z : List Token). AllByRecursion (Ends n) z) l.1 a in

@@ -43,8 +43,7 @@ pub record IsTooDeep (n : ℕ) (tokens : List Token) (i : ℕ) : Type 0 where
 abbrev pub fault_of_token : List Token → ℕ → ParseKind → ParseFault
 fault_of_token tokens i kind = record { kind = kind; at = number i; span = next_span tokens (slice_get tokens i) }
 
--- what a fault says of the tokens
+-- what a fault says of the tokens; want of memory says nothing of them
 pub data Refuses (tokens : List Token) : ParseFault → Type 0 where
-  memory : {fault : ParseFault} → fault.kind ≡ kinds.Memory → Refuses tokens fault
   unexpected : {i : ℕ} → IsUnexpected nesting tokens i → Refuses tokens (fault_of_token tokens i kinds.Unexpected)
   too_deep : {i : ℕ} → IsTooDeep nesting tokens i → Refuses tokens (fault_of_token tokens i kinds.TooDeep)

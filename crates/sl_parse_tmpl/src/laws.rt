@@ -5,7 +5,6 @@ ghost use Rattle.std.specs.List.{AllByRecursion};
 ghost use Rattle.sl_ast.specs.declared.token.Token.{Token};
 ghost use Rattle.sl_ast.specs.declared.unit.Unit as file;
 ghost use Rattle.sl_parse_tmpl.specs.declared.fault.ParseFault.{ParseFault};
-ghost use Rattle.sl_parse_tmpl.specs.declared.fault.ParseKind.TheVariants as kinds;
 ghost use Rattle.sl_parse_tmpl.specs.Faults as faults;
 ghost use Rattle.sl_parse_tmpl.specs.Grammar.{Derives};
 ghost use Rattle.sl_parse_tmpl.specs.Refusals.{Refuses};
@@ -33,10 +32,13 @@ pub fn files()
     ensures one { (n m : ℕ) (tree other : file.Unit) (tokens : List Token) → Derives n tree tokens → Derives m other tokens → tree ≡ other }
 {}
 
-/// Where the rules stop the grammar does too. Of one text one fault is told, at one token.
+/// Where the rules stop the grammar does too. Of tokens one fault is told, at one of them, and none of tokens that have a
+/// tree. It begins within the characters of the tokens.
 pub fn refusals()
     ensures told { (tokens : List Token) (fault : ParseFault)
         → Some fault ≡ faults.fault_of tokens (spec.unit_to faults.nesting ([], tokens)) → Refuses tokens fault }
-    ensures one { (tokens : List Token) (fault other : ParseFault) → Refuses tokens fault → Refuses tokens other
-        → (fault.kind ≡ kinds.Memory) ⊎ (other.kind ≡ kinds.Memory) ⊎ (fault ≡ other) }
+    ensures one { (tokens : List Token) (fault other : ParseFault) → Refuses tokens fault → Refuses tokens other → fault ≡ other }
+    ensures never_both { (tokens : List Token) (tree : file.Unit) (fault : ParseFault) → Derives faults.nesting tree tokens → Refuses tokens fault → ⊥ }
+    ensures within { (tokens : List Token) (fault : ParseFault) (n : ℕ) → Refuses tokens fault
+        → AllByRecursion (λ t. (t.span.from ≤ n) × (t.span.to ≤ n)) tokens → fault.span.from ≤ n }
 {}

@@ -40,7 +40,7 @@ pub fn parse(alloc: Global, tokens: &[Token]) -> Result<Unit, ParseFault>
     ensures only { IfOk result (λ tree. (n : ℕ) (other : file.Unit) → Derives n other tokens.now → other ≡ tree) }
     ensures fault { IfErr result (λ fault. (fault.kind ≡ ParseKind.Memory) ⊎ (Some fault ≡ faults.fault_of tokens.now (spec.unit_to faults.nesting ([], tokens.now)))) }
     ensures complete { IfErr result (λ fault. (tree : file.Unit) → Derives faults.nesting tree tokens.now → fault.kind ≡ ParseKind.Memory) }
-    ensures refused { IfErr result (λ fault. Refuses tokens.now fault) }
+    ensures refused { IfErr result (λ fault. (fault.kind ≡ ParseKind.Memory) ⊎ Refuses tokens.now fault) }
 {
     by_rules(alloc, tokens)
 }

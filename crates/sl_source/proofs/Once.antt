@@ -1,5 +1,5 @@
 -- Bytes have one tree or one first fault, and not both, by what the parts of the front end say.
-use Rattle.std.proofs.Common.{◌≡◌, ℕ, List, [], Option, Some, ap, subst, ◌∙◌}
+use Rattle.std.proofs.Common.{◌≡◌, ℕ, List, ap, subst, ◌∙◌}
 use Rattle.sl_text.specs.Utf8.{Spells, IsWellFormed, IsIllFormedAt}
 use Rattle.sl_text.specs.Spot.{IsSpot}
 use Rattle.sl_text.specs.declared.span.Span.{Span}
@@ -11,8 +11,8 @@ use Rattle.sl_lexer.specs.declared.fault.LexFault.{LexFault}
 use Rattle.sl_lexer.specs.Lex.{Lex, Fault}
 use Rattle.sl_newline.specs.Regions.{Separated}
 use Rattle.sl_parse_tmpl.specs.declared.fault.ParseFault.{ParseFault}
-use Rattle.sl_parse_tmpl.specs.Faults.{nesting, tree_of, fault_of}
-use Rattle.sl_parse_tmpl.specs.Rules as rules_
+use Rattle.sl_parse_tmpl.specs.Faults.{nesting}
+use Rattle.sl_parse_tmpl.specs.Grammar.{Derives}
 use Rattle.sl_source.specs.declared.refusal.Refusal.{Refusal}
 use Rattle.sl_source.specs.declared.refusal.Refusal.TheVariants as refusal
 use Rattle.sl_source.specs.Source.{AreTokens, IsTree, IsParseFault, HasTree, IsSource, FirstInText, lexical, syntactic, FirstFault, not_utf8, in_text}
@@ -23,11 +23,6 @@ spot_at line column = record { line = line; column = column }
 abbrev fault_at : LexKind → Span → LexFault
 fault_at kind span = record { kind = kind; span = span }
 
--- ---- of tokens
-
-one_fact : {A : Type 0} (o : Option A) (x y : A) → Some x ≡ o → Some y ≡ o → x ≡ y
-one_fact o x y e f = cc
-
 -- ---- of texts
 
 module _ (lexed_once : (text : List ℕ) (ts us : List Token) → Lex text ts → Lex text us → ts ≡ us)
@@ -36,6 +31,8 @@ module _ (lexed_once : (text : List ℕ) (ts us : List Token) → Lex text ts �
     (separated_once : (text : List ℕ) (ts a b : List Token) → Separated text ts a → Separated text ts b → a ≡ b)
     (line_once : (text : List ℕ) (at l c m d : ℕ) → IsSpot text at l c → IsSpot text at m d → l ≡ m)
     (column_once : (text : List ℕ) (at l c m d : ℕ) → IsSpot text at l c → IsSpot text at m d → c ≡ d)
+    (parsed_once : (n m : ℕ) (tree other : file.Unit) (tokens : List Token) → Derives n tree tokens → Derives m other tokens → tree ≡ other)
+    (refused_once : (tokens : List Token) (fault other : ParseFault) → IsParseFault tokens fault → IsParseFault tokens other → fault ≡ other)
     (parsed_or_not : (tokens : List Token) (tree : file.Unit) (fault : ParseFault) → IsTree tokens tree → IsParseFault tokens fault → ⊥)
     (spelled_once : (bytes xs ys : List ℕ) → Spells bytes xs → Spells bytes ys → xs ≡ ys)
     (place_once : (bytes : List ℕ) (i j : ℕ) → IsIllFormedAt bytes i → IsIllFormedAt bytes j → i ≡ j)
@@ -49,7 +46,7 @@ module _ (lexed_once : (text : List ℕ) (ts us : List Token) → Lex text ts �
   one_in text a b x y =
       let e : x.tokens ≡ y.tokens = one_list text x.tokens y.tokens x.are_tokens y.are_tokens in
       let h : IsTree y.tokens a = subst (λ (z : List Token). IsTree z a) e x.is_tree in
-      one_fact (tree_of (rules_.unit nesting ([], y.tokens))) a b h y.is_tree
+      parsed_once nesting nesting a b y.tokens h y.is_tree
 
   one_spot : (text : List ℕ) (at : ℕ) (x y : Spot) → IsSpot text at x.line x.column → IsSpot text at y.line y.column → x ≡ y
   one_spot text at x y i j =
@@ -71,7 +68,7 @@ module _ (lexed_once : (text : List ℕ) (ts us : List Token) → Lex text ts �
   one_in_text {text = text} (syntactic {fault = f} {spot = x} ts t a i) q (syntactic {fault = g} {spot = y} us u b j) =
       let l : ts ≡ us = one_list text ts us t u in
       let k : IsParseFault us f = subst (λ (z : List Token). IsParseFault z f) l a in
-      let e : f ≡ g = one_fact (fault_of us (rules_.unit nesting ([], us))) f g k b in
+      let e : f ≡ g = refused_once us f g k b in
       let h : IsSpot text g.span.from x.line x.column = subst (λ (z : ParseFault). IsSpot text z.span.from x.line x.column) e i in
       ap (λ (z : ParseFault). refusal.Parse z x) e ∙ ap (λ (z : Spot). refusal.Parse g z) (one_spot text g.span.from x y h j)
 

@@ -1,6 +1,6 @@
 -- What bytes are as a source file: the characters that they spell, the tokens of these with newlines between them
 -- (SLS 1), and the tree of the tokens (SLS 4, 5); or the first fault.
-use Rattle.std.specs.Prelude.{◌≡◌, ℕ, List, [], Some}
+use Rattle.std.specs.Prelude.{ℕ, List}
 use Rattle.sl_text.specs.Utf8.{Spells, IsIllFormedAt}
 use Rattle.sl_text.specs.Spot.{IsSpot}
 use Rattle.sl_text.specs.declared.spot.Spot.{Spot}
@@ -10,8 +10,9 @@ use Rattle.sl_lexer.specs.declared.fault.LexFault.{LexFault}
 use Rattle.sl_lexer.specs.Lex.{Lex, Fault}
 use Rattle.sl_newline.specs.Regions.{Separated}
 use Rattle.sl_parse_tmpl.specs.declared.fault.ParseFault.{ParseFault}
-use Rattle.sl_parse_tmpl.specs.Faults.{nesting, tree_of, fault_of}
-use Rattle.sl_parse_tmpl.specs.Rules as rules_
+use Rattle.sl_parse_tmpl.specs.Grammar.{Derives}
+use Rattle.sl_parse_tmpl.specs.Faults.{nesting}
+use Rattle.sl_parse_tmpl.specs.Refusals.{Refuses}
 use Rattle.sl_source.specs.declared.refusal.Refusal.{Refusal}
 use Rattle.sl_source.specs.declared.refusal.Refusal.TheVariants as refusal
 use Rattle.sl_source.specs.declared.refusal.SourceFault.{SourceFault}
@@ -23,13 +24,13 @@ pub record AreTokens (text : List ℕ) (tokens : List Token) : Type 0 where
   pub lexed : Lex text read
   pub separated : Separated text read tokens
 
--- the tree of tokens, and why they have none, by the rules of files
+-- the tree of tokens by the grammar, with expressions and patterns nested at most 200 deep
 abbrev pub IsTree : List Token → file.Unit → Type 0
-IsTree tokens tree = Some tree ≡ tree_of (rules_.unit nesting ([], tokens))
+IsTree tokens tree = Derives nesting tree tokens
 
--- the rules of files stop in the tokens with this fault
+-- why tokens have no tree: the first that no file goes on with, or the first that lies deeper in each that does
 abbrev pub IsParseFault : List Token → ParseFault → Type 0
-IsParseFault tokens fault = Some fault ≡ fault_of tokens (rules_.unit nesting ([], tokens))
+IsParseFault tokens fault = Refuses tokens fault
 
 -- the text has tokens with this tree
 pub record HasTree (text : List ℕ) (tree : file.Unit) : Type 0 where

@@ -7,7 +7,7 @@ ghost use Rattle.sl_source.specs.Source.{IsSource, FirstFault};
 
 use sl_lexer::lexing;
 use sl_newline::separated;
-use sl_parse_tmpl::parsing;
+use sl_parse_tmpl::{files, refusals};
 use sl_text::{encoding, spots};
 
 /// Bytes have at most one tree and one first fault, and never both.
@@ -20,5 +20,6 @@ pub fn sources()
     spots();
     lexing();
     separated();
-    parsing();
+    files();
+    refusals();
 }

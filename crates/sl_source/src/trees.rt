@@ -9,7 +9,7 @@ use crate::source::Source;
 use sl_ast::{Token, Unit};
 use sl_lexer::lexing;
 use sl_newline::separated;
-use sl_parse_tmpl::{ParseFault, ParseKind, parse, parsing};
+use sl_parse_tmpl::{ParseFault, ParseKind, parse, refusals};
 use sl_text::{Text, spot_at};
 use std::alloc::Global;
 
@@ -43,7 +43,7 @@ fn refused(text: &Text, tokens: &[Token], fault: ParseFault) -> SourceFault
 {
     lexing();
     separated();
-    parsing();
+    refusals();
     if fault.kind == ParseKind::Memory {
         return SourceFault::Memory;
     }

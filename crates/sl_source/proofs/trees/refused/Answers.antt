@@ -14,7 +14,7 @@ spot_at-requires c =
     let tokens = c.requires.tokens in
     let read = c.lexing.ensures.within c.args.text.now tokens.read tokens.lexed in
     let all = c.separated.ensures.within c.args.text.now tokens.read c.args.tokens.now (length c.args.text.now) tokens.separated read in
-    c.parsing.ensures.within c.args.tokens.now c.args.fault (length c.args.text.now)
+    c.refusals.ensures.within c.args.tokens.now c.args.fault (length c.args.text.now)
     (real c.args.tokens.now c.args.fault c.eq.result c.requires.found (λ e. c.eq.ensures ∙ rw e refl) c.if-eq.false) all
 
 pub returns : goal.returns
