@@ -8,6 +8,6 @@ mod starting;
 mod texts;
 
 pub use entries::resolved;
-pub use laws::entries_resolve;
+pub use laws::{entries_resolve, main_starts};
 pub use starting::main_method;
 pub use texts::texts_of;
